@@ -1,0 +1,135 @@
+-- Which bytes are the head of a request, which heads are refused, and which request a head is.
+use Rattle.std.specs.Prelude.{◌≡◌, ℕ, ◌+◌, ◌≤◌, ◌^◌, min, Bool, true, false, not, ◌&&◌, ◌||◌, ◌==◌, nat_lt, List, [], ◌∷◌, length, map, codes, Option, Some, None, is_none, unwrap_or, bytes_eq, if◌then◌else◌}
+use Rattle.std.specs.List.{list_any}
+use Rattle.std.specs.Str.{byte}
+use Rattle.std.specs.Str.Parse.{digits_value}
+use Rattle.httparse.specs.Grammar.{RequestHead, ReadsRequest, field_value}
+use Rattle.http_header.specs.Token.{lowercase}
+use Rattle.tow_model.specs.declared.request.Field.{Field}
+use Rattle.tow_model.specs.declared.request.Version.{Version}
+use Rattle.tow_model.specs.declared.request.Version.TheVariants.{V10, V11}
+use Rattle.tow_model.specs.declared.request.Framing.{Framing}
+use Rattle.tow_model.specs.declared.request.Framing.TheVariants.{Empty, Fixed, Chunked}
+use Rattle.tow_model.specs.declared.request.Request.{Request}
+use Rattle.tow_model.specs.Texts.{Text, begins_with, cut_at}
+use Rattle.tow_model.specs.Fields.{field, values_of, has, elements}
+use Rattle.tow_model.specs.Paths.{Place, place_of, slash, is_dot, is_dots}
+
+-- The input begins with the head h of httparse's grammar (RFC 9112, section 2.1), within the server's bounds, and rest follows.
+pub record HasHead (input : List ℕ) (h : RequestHead) (rest : List ℕ) : Type 0 where
+  pub reads : ReadsRequest input h rest
+  pub bytes_fit : length input ≤ length rest + 65536
+  pub fields_fit : length h.fields ≤ 200
+
+-- no front of the input is a head
+abbrev pub HasNoHead : List ℕ → Type 0
+HasNoHead input = (h : RequestHead) (rest : List ℕ) → ¬ (HasHead input h rest)
+
+-- ---- its fields
+
+abbrev pub fields_of : RequestHead → List Field
+fields_of h = map (λ f. field f.name (field_value f)) h.fields
+
+-- ---- refusals
+
+-- HTTP/1.1 without a Host line, or more than one in either version (RFC 9112, section 3.2)
+abbrev pub has_wrong_host : RequestHead → Bool
+has_wrong_host h =
+    let count = length (values_of (codes "host") (fields_of h)) in nat_lt 1 count || (h.minor == 1 && count == 0)
+
+-- the target is of no form that is served (RFC 9112, section 3.2)
+abbrev pub has_wrong_target : RequestHead → Bool
+has_wrong_target h = is_none (place_of h.method h.target)
+
+-- the head is no request that HTTP allows here
+abbrev pub is_wrong : RequestHead → Bool
+is_wrong h = has_wrong_host h || has_wrong_target h
+
+-- a field whose meaning is not built yet
+abbrev pub has_later_field : List Field → Bool
+has_later_field fields =
+    has (codes "content-length") fields || has (codes "transfer-encoding") fields
+    || has (codes "connection") fields || has (codes "expect") fields
+
+-- an origin-form without `%`, `?` and segments `.` and `..`
+abbrev pub is_plain_target : Text → Bool
+is_plain_target target =
+    begins_with (codes "/") target && not (list_any (λ b. b == byte "%" || b == byte "?") target)
+    && not (list_any (λ s. is_dot s || is_dots s) (cut_at slash target))
+
+-- what is not built yet: HTTP/1.0, a field that decides on framing or persistence, and a target that would have to be read further
+abbrev pub is_later : RequestHead → Bool
+is_later h = h.minor == 0 || has_later_field (fields_of h) || not (is_plain_target h.target)
+
+-- The status with which a head is refused: 400 where it is wrong, 501 where it asks for what is not built yet.
+abbrev pub refusal : RequestHead → Option ℕ
+refusal h = if is_wrong h then Some 400 else (if is_later h then Some 501 else None)
+
+-- ---- requests
+
+abbrev pub version_of : RequestHead → Version
+version_of h = if h.minor == 1 then V11 else V10
+
+-- a length above 2^63 counts as 2^63
+abbrev pub framing_by : List Text → Framing
+framing_by [] = Empty
+framing_by (value ∷ values) = Fixed (min (digits_value 10 value) (2 ^ 63))
+
+-- RFC 9112, section 6.3
+abbrev pub framing_of : List Field → Framing
+framing_of fields =
+    if has (codes "transfer-encoding") fields then Chunked else framing_by (values_of (codes "content-length") fields)
+
+-- RFC 9112, section 9.3
+abbrev pub keeps : Version → List Text → Bool
+keeps V11 connection = not (list_any (bytes_eq (codes "close")) connection)
+keeps V10 connection =
+    list_any (bytes_eq (codes "keep-alive")) connection && not (list_any (bytes_eq (codes "close")) connection)
+
+abbrev pub is_continue : List Text → Bool
+is_continue (value ∷ []) = bytes_eq (lowercase value) (codes "100-continue")
+is_continue _ = false
+
+abbrev pub has_content : Framing → Bool
+has_content Empty = false
+has_content (Fixed n) = nat_lt 0 n
+has_content Chunked = true
+
+-- HTTP/1.1, the one Expect value is `100-continue`, and there is content (RFC 9110, section 10.1.1)
+abbrev pub expects_by : Version → List Field → Bool
+expects_by V10 fields = false
+expects_by V11 fields = is_continue (values_of (codes "expect") fields) && has_content (framing_of fields)
+
+-- what a target of no form would name
+abbrev pub no_place : Place
+no_place = record { url = []; path = []; query = None }
+
+-- the request that a head is
+abbrev pub request_of : ℕ → RequestHead → Request
+request_of peer h =
+    let place = unwrap_or (place_of h.method h.target) no_place in
+    record {
+      method = h.method;
+      target = h.target;
+      version = version_of h;
+      fields = fields_of h;
+      url = place.url;
+      path = place.path;
+      query = place.query;
+      framing = framing_of (fields_of h);
+      expects = expects_by (version_of h) (fields_of h);
+      keep = keeps (version_of h) (elements (values_of (codes "connection") (fields_of h)));
+      peer = peer;
+    }
+
+-- The bytes are one whole head that is not refused, and q is its request.
+pub record Head (bytes : List ℕ) (peer : ℕ) (q : Request) : Type 0 where
+  pub head : RequestHead
+  pub whole : HasHead bytes head []
+  pub served : refusal head ≡ None
+  pub request : request_of peer head ≡ q
+
+-- of one input at most one front is a head
+abbrev pub HeadIsOne : List ℕ → Type 0
+HeadIsOne input =
+    (h k : RequestHead) (rest other : List ℕ) → HasHead input h rest → HasHead input k other → (h ≡ k) × (rest ≡ other)

@@ -1,0 +1,39 @@
+//! The data that the server's crates speak of, and, in specs/, the definitions that their contracts cite: the handlers
+//! language and its trees, requests and their heads, records and what a text makes of them, answers, and what a
+//! connection writes.
+#![tactic(auto)]
+
+pub mod account;
+pub mod action;
+pub mod answer;
+pub mod attribute;
+pub mod bytes;
+pub mod content;
+pub mod kind;
+pub mod laws;
+pub mod list;
+pub mod no_memory;
+pub mod page;
+pub mod predicate;
+pub mod record;
+pub mod request;
+pub mod statement;
+pub mod table;
+pub mod token;
+
+pub use account::{Account, Bound, Call, End, Line, Role, Verdict, What};
+pub use action::{Action, Target};
+pub use answer::Answer;
+pub use attribute::{Attribute, Piece, Template};
+pub use bytes::Bytes;
+pub use content::Content;
+pub use kind::Kind;
+pub use list::List;
+pub use no_memory::NoMemory;
+pub use page::Page;
+pub use predicate::{Predicate, Segment, Test};
+pub use record::{Choice, Listener, Record};
+pub use request::{Field, Framing, Request, Version};
+pub use statement::{Statement, Tree};
+pub use table::{Given, Handler, Shape, TestName};
+pub use token::{Token, TokenKind};
