@@ -1,0 +1,20 @@
+//! What the server asks of the machine that it runs on: texts by name, clocks, and the streams that a command reads
+//! and prints through. `Host` says what each call gives and leaves as plain data; `MemoryHost` tells all of it.
+#![tactic(auto)]
+
+mod clock;
+mod host;
+mod memory_clock;
+mod memory_host;
+mod memory_texts;
+mod name_counts;
+
+pub use clock::Clock;
+pub use host::{Host, HostFault, Kept};
+pub use memory_clock::{MemoryClock, MomentAt};
+pub use memory_host::MemoryHost;
+pub use memory_texts::{MemoryTexts, NamedText};
+pub use name_counts::NameCounts;
+
+#[cfg(test)]
+mod tests;

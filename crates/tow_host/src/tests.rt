@@ -1,0 +1,159 @@
+ghost use Rattle.std.specs.Prelude.{◌≡◌, ◌<◌, IfOk, true};
+ghost use Rattle.std.specs.Option.{ForSome};
+
+use super::*;
+use std::alloc::{AllocError, Global};
+use std::test::Fail;
+use tow_link::{Joined, MemorySink, MemorySource, Whole, read_whole, write_all};
+
+fn source(alloc: Global, bytes: &[u8]) -> Result<MemorySource, AllocError> {
+    Ok(MemorySource::new(bytes.to_vec(alloc)?, Vec::new(alloc)))
+}
+
+// A host of the texts `one` and `three` under `a` and `two` under `b`, whose second call of `text` fails, with the
+// input `in`.
+fn host(alloc: Global) -> Result<MemoryHost, AllocError>
+    ensures home { IfOk result (λ host. host.is_home ≡ true) }
+{
+    let mut texts = Vec::new(alloc);
+    for (name, bytes) in [("a", b"one".as_slice()), ("b", b"two"), ("a", b"three")] {
+        texts.push(NamedText {
+            name: String::from_str(alloc, name)?,
+            source: source(alloc, bytes)?,
+        })?;
+    }
+    let streams = Joined {
+        input: source(alloc, b"in")?,
+        output: MemorySink::new(alloc, Vec::new(alloc)),
+    };
+    let clock = MemoryClock::of_moments(&MOMENTS, 5);
+    Ok(MemoryHost::new(
+        alloc,
+        MemoryTexts::new(texts),
+        streams,
+        clock,
+        [1].to_vec(alloc)?,
+    ))
+}
+
+const MOMENTS: [MomentAt; 2] = [
+    MomentAt {
+        k: 0,
+        j: 2,
+        second: 7,
+    },
+    MomentAt {
+        k: 1,
+        j: 2,
+        second: 8,
+    },
+];
+
+// The text of a name, whose source is handed back; `!` where the host fails.
+fn text_of<H: Host>(alloc: Global, host: &mut H, name: &str) -> Result<Vec<u8>, AllocError> {
+    let Ok(mut text) = host.text(name) else {
+        return b"!".to_vec(alloc);
+    };
+    let whole = read_whole(alloc, &mut text, 9);
+    host.take_back(Kept {
+        text: Some(text),
+        streams: None,
+    });
+    match whole {
+        Whole::Bytes(bytes) => Ok(bytes),
+        _ => b"?".to_vec(alloc),
+    }
+}
+
+// The texts of these names one after the other, then how often `a`, `b` and `c` failed and how many sources came
+// back, and the text that came back last.
+fn texts_of(alloc: Global, names: &[&str]) -> Result<(Vec<u8>, [u64; 4], Vec<u8>), AllocError> {
+    let mut host = host(alloc)?;
+    let mut texts = Vec::new(alloc);
+    for name in names {
+        texts.extend_from_slice(&text_of(alloc, &mut host, name)?)?;
+    }
+    let counts = [
+        host.faults_of("a"),
+        host.faults_of("b"),
+        host.faults_of("c"),
+        host.returned(),
+    ];
+    let last = match host.kept_text() {
+        Some(text) => text.taken().to_vec(alloc)?,
+        None => Vec::new(alloc),
+    };
+    Ok((texts, counts, last))
+}
+
+// Reads all of the input, and writes it to the output.
+fn echo<H: Host>(alloc: Global, host: &mut H)
+    requires { H.is_home host.old ≡ true }
+{
+    let mut streams = host.lend();
+    if let Whole::Bytes(bytes) = read_whole(alloc, &mut streams.input, 9) {
+        let _ = write_all(&mut streams.output, &bytes);
+    }
+    host.take_back(Kept {
+        text: None,
+        streams: Some(streams),
+    });
+}
+
+// What an echo leaves: what the output has, and how much the input has left.
+fn echoed(alloc: Global) -> Result<Option<(Vec<u8>, usize)>, AllocError> {
+    let mut host = host(alloc)?;
+    echo(alloc, &mut host);
+    match (host.output(), host.input()) {
+        (Some(output), Some(input)) => Ok(Some((
+            output.written().to_vec(alloc)?,
+            input.left().len(),
+        ))),
+        _ => Ok(None),
+    }
+}
+
+// The moments of the requests 1 and 2 of the connections 0 and 1.
+fn seconds<H: Host>(host: &mut H, moment: Option<u64>) -> [u64; 4]
+    requires { ForSome moment (λ second. second < 253402300800) }
+{
+    let mut clock = host.clock(moment);
+    [
+        clock.at(0, 1),
+        clock.at(0, 2),
+        clock.at(1, 1),
+        clock.at(1, 2),
+    ]
+}
+
+// The moments of a host, and then those of a clock that was given one.
+fn moments(alloc: Global) -> Result<([u64; 4], [u64; 4]), AllocError> {
+    let mut host = host(alloc)?;
+    let told = seconds(&mut host, None);
+    Ok((told, seconds(&mut host, Some(9))))
+}
+
+#[test]
+fn a_text_comes_by_its_name(rt: HostRuntime) -> Result<(), Fail> {
+    let (texts, counts, last) = texts_of(rt.alloc(), &["a", "b", "b", "c"])?;
+    assert_eq!(rt; texts.as_slice(), b"one!two!".as_slice());
+    assert_eq!(rt; counts, [0, 1, 1, 2]);
+    assert_eq!(rt; last.as_slice(), b"two".as_slice());
+    Ok(())
+}
+
+#[test]
+fn what_was_lent_comes_back(rt: HostRuntime) -> Result<(), Fail> {
+    let (written, left) = echoed(rt.alloc())?.ok_or("lent")?;
+    assert_eq!(rt; written.as_slice(), b"in".as_slice());
+    assert_eq!(rt; left, 0);
+    Ok(())
+}
+
+#[test]
+fn a_clock_tells_its_moments(rt: HostRuntime) -> Result<(), Fail> {
+    let (told, given) = moments(rt.alloc())?;
+    assert_eq!(rt; told, [5, 7, 5, 8]);
+    assert_eq!(rt; given, [9, 9, 9, 9]);
+    Ok(())
+}
