@@ -1,0 +1,13 @@
+//! The bytes of an answer's head (RFC 9112, section 2.1): the status line with its reason, the field lines and the empty
+//! line, and the value of its date field.
+#![tactic(auto)]
+
+pub mod dates;
+pub mod heads;
+pub mod reasons;
+#[cfg(test)]
+mod tests;
+
+pub use dates::date;
+pub use heads::head;
+pub use reasons::reason;
