@@ -1,0 +1,3 @@
+mod Fronts
+mod Spans
+pub mod Served

@@ -1,0 +1,66 @@
+//! The field lines of a head, read and copied by their spans.
+
+ghost use Rattle.std.specs.Prelude.{◌≡◌, All, IfOk, length};
+ghost use Rattle.httparse.specs.Spans.{IsHeaderWithin};
+ghost use Rattle.tow_model.specs.Fields.{has, is_named, values_of};
+ghost use Rattle.tow_request.specs.Lines.{field_at, fields_at};
+
+use httparse::spans::HeaderSpan;
+use std::alloc::{AllocError, Global};
+use tow_model::{Bytes, Field, List};
+
+/// Whether a line has the name, in any case.
+fn has_name(bytes: &[u8], line: HeaderSpan, name: &[u8]) -> bool
+    requires { IsHeaderWithin (length bytes.now) line }
+    ensures { result ≡ is_named name.now (field_at bytes.now line) }
+{
+    line.name.of(bytes).eq_ignore_ascii_case(name)
+}
+
+/// How many lines have the name, in any case.
+pub(crate) fn count_named(bytes: &[u8], lines: &[HeaderSpan], name: &[u8]) -> usize
+    requires { All (IsHeaderWithin (length bytes.now)) lines.now }
+    ensures { result ≡ length (values_of name.now (fields_at bytes.now lines.now)) }
+{
+    let mut count = 0;
+    for line in lines {
+        if has_name(bytes, *line, name) {
+            count += 1;
+        }
+    }
+    count
+}
+
+/// Whether some line has the name, in any case.
+pub(crate) fn has_named(bytes: &[u8], lines: &[HeaderSpan], name: &[u8]) -> bool
+    requires { All (IsHeaderWithin (length bytes.now)) lines.now }
+    ensures { result ≡ has name.now (fields_at bytes.now lines.now) }
+{
+    count_named(bytes, lines, name) > 0
+}
+
+/// Copies the name and the value of a line.
+fn copied_field(alloc: Global, bytes: &[u8], line: HeaderSpan) -> Result<Field, AllocError>
+    requires { IsHeaderWithin (length bytes.now) line }
+    ensures { IfOk result (λ f. f ≡ field_at bytes.now line) }
+{
+    let name = Bytes::from_slice(alloc, line.name.of(bytes))?;
+    let value = Bytes::from_slice(alloc, line.value.of(bytes))?;
+    Ok(Field { name, value })
+}
+
+/// Copies the lines, in their order.
+pub(crate) fn copied_fields(
+    alloc: Global,
+    bytes: &[u8],
+    lines: &[HeaderSpan],
+) -> Result<List<Field>, AllocError>
+    requires { All (IsHeaderWithin (length bytes.now)) lines.now }
+    ensures { IfOk result (λ fields. fields ≡ fields_at bytes.now lines.now) }
+{
+    let mut fields = Vec::with_capacity(alloc, lines.len())?;
+    for line in lines {
+        fields.push(copied_field(alloc, bytes, *line)?)?;
+    }
+    Ok(List::from_vec(fields))
+}

@@ -1,0 +1,90 @@
+//! The look for a head at the front of an input.
+
+ghost use Rattle.std.specs.Prelude.{◌≡◌, ◌≤◌, ◌⊎◌, ◌↔◌, ℕ, Bool, IsTrue, length};
+ghost use Rattle.httparse.specs.Grammar.{MayBecomeRequest};
+ghost use Rattle.httparse.specs.Spans.{IsRequestOf, IsRequestWithin, RequestExceeds};
+ghost use Rattle.tow_model.specs.Stream.{IsBlank, IsNoRequest};
+ghost use Rattle.tow_request.specs.NextHead.{FindsHead, Tells};
+
+use crate::NextHead;
+use crate::refusals::status_of;
+use crate::requests::copied_request;
+use httparse::spans::{EMPTY_HEADER_SPAN, HeaderSpan, RequestSpans, parse_request};
+use httparse::{Error, Status};
+use std::alloc::Global;
+
+/// How many bytes a head takes at most.
+const MOST_BYTES: usize = 65536;
+
+/// How many field lines a head has at most.
+const MOST_LINES: usize = 200;
+
+/// Looks for a head at the front of an input, of which `bytes` have come; `ended` says that there are no more.
+/// Takes memory for what the request keeps.
+pub fn next_head(alloc: Global, bytes: &[u8], ended: bool, peer: u32) -> NextHead
+    requires { length bytes.now ≤ 65536 }
+    ensures tells { Tells bytes.now ended peer result }
+    ensures found { FindsHead bytes.now peer result }
+{
+    if is_blank(bytes) {
+        return if ended {
+            NextHead::Nothing
+        } else {
+            NextHead::Partial
+        };
+    }
+    let mut headers = [EMPTY_HEADER_SPAN; MOST_LINES];
+    match parse_request(bytes, &mut headers) {
+        Ok(Status::Complete(head)) => look_at(alloc, bytes, &headers, head, peer),
+        Ok(Status::Partial) => look_on(bytes, ended),
+        Err(error) => match error {
+            Error::TooManyHeaders => look_on(bytes, ended),
+            _ => NextHead::Refuse(400),
+        },
+    }
+}
+
+/// Whether the bytes are CR and LF alone, and leave room for a head behind them.
+fn is_blank(bytes: &[u8]) -> bool
+    ensures { IsTrue result ↔ IsBlank bytes.now }
+{
+    bytes.len() < MOST_BYTES && bytes.iter().all(|b| *b == b'\r' || *b == b'\n')
+}
+
+/// The answer to the head of these spans.
+fn look_at(
+    alloc: Global,
+    bytes: &[u8],
+    headers: &[HeaderSpan],
+    head: RequestSpans,
+    peer: u32,
+) -> NextHead
+    requires bytes_fit { length bytes.now ≤ 65536 }
+    requires lines_fit { length headers.now ≤ 200 }
+    requires within { IsRequestWithin bytes.now headers.now head }
+    requires is_head { IsRequestOf bytes.now headers.now head }
+    ensures tells { (ended : Bool) → Tells bytes.now ended peer result }
+    ensures found { FindsHead bytes.now peer result }
+{
+    match status_of(bytes, headers, head) {
+        Some(status) => NextHead::Refuse(status),
+        None => match copied_request(alloc, bytes, headers, head, peer) {
+            Ok(request) => NextHead::Head(request, head.len),
+            Err(_) => NextHead::NoMemory,
+        },
+    }
+}
+
+/// The answer to bytes that begin with no head, and may go on to one.
+fn look_on(bytes: &[u8], ended: bool) -> NextHead
+    requires bytes_fit { length bytes.now ≤ 65536 }
+    requires none { IsNoRequest bytes.now }
+    requires open { MayBecomeRequest bytes.now ⊎ RequestExceeds 200 bytes.now }
+    ensures tells { (peer : ℕ) → Tells bytes.now ended peer result }
+{
+    if ended || bytes.len() == MOST_BYTES {
+        NextHead::Refuse(400)
+    } else {
+        NextHead::Partial
+    }
+}
