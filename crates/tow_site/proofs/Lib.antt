@@ -1,0 +1,5 @@
+pub mod Building
+pub mod Holding
+pub mod Walking
+pub mod Leading
+pub mod Deciding
