@@ -1,0 +1,5 @@
+pub mod Filling
+pub mod Fronts
+pub mod Conversing
+pub mod Replying
+pub mod Turning

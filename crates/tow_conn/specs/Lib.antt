@@ -1,0 +1,3 @@
+pub mod Inboxes
+pub mod Conversations
+pub mod Turns
