@@ -1,0 +1,45 @@
+ghost use Rattle.std.specs.Prelude.{◌≡◌, ◌≢◌, ◌<◌, ◌⊎◌, ℕ, Option, true, map, codes, string_bytes};
+ghost use Rattle.tow_link.specs.Data.{Rose};
+ghost use Rattle.tow_host.specs.Counts.{count_at};
+ghost use Rattle.tow_host.specs.Moments.{clock_table};
+ghost use Rattle.tow_server.specs.Asking.{ReturnsText, AsksWire, AsksPart, DoesNotCompile, LeavesStreams, Prints, TextSourceFailed};
+ghost use Rattle.tow_server.specs.Words.{words_of, text_word, usage_line};
+
+use crate::asking::run_ask;
+use crate::printing::print_line;
+use crate::status::{Status, Why};
+use crate::words::{Words, read_words};
+use std::alloc::Global;
+use tow_host::Host;
+
+/// The line that says which words there are.
+const USAGE: &[u8] =
+    b"usage: check TEXT | ask DIR TEXT [--moment N] | drill N | serve DIR TEXT ADDRESS [--loops N] [--workers N] [--slots N] [--connections N]\n";
+
+/// Does what the words ask for, which lack the program's name. Takes memory as the command does.
+pub fn run<H: Host>(alloc: Global, words: &Vec<String>, host: &mut H) -> Status
+    requires { H.is_home host.old ≡ true }
+    ensures home { H.is_home host.new ≡ true }
+    ensures no_command { (why : Why) → words_of (map string_bytes words.now.items) ≡ Words.Usage why → result ≡ Status.Words why }
+    ensures only_words { (why : Why) → result ≡ Status.Words why → words_of (map string_bytes words.now.items) ≡ Words.Usage why }
+    ensures usage { (why : Why) → result ≡ Status.Words why → Prints (H.held host.old).output (H.held host.new).output usage_line }
+    ensures usage_input { (why : Why) → result ≡ Status.Words why → (H.held host.new).input ≡ (H.held host.old).input }
+    ensures done { (moment : Option ℕ) → words_of (map string_bytes words.now.items) ≡ Words.Ask moment → result ≡ Status.Done → AsksWire (clock_table (H.moments host.old) moment) (H.held host.old) (H.held host.new) }
+    ensures part { (moment : Option ℕ) → words_of (map string_bytes words.now.items) ≡ Words.Ask moment → result ≡ Status.StreamFault → AsksPart (clock_table (H.moments host.old) moment) (H.held host.old) (H.held host.new) }
+    ensures memory { (moment : Option ℕ) → words_of (map string_bytes words.now.items) ≡ Words.Ask moment → result ≡ Status.NoMemory → LeavesStreams (H.held host.old) (H.held host.new) ⊎ AsksPart (clock_table (H.moments host.old) moment) (H.held host.old) (H.held host.new) }
+    ensures stream { result ≡ Status.StreamFault → Rose (H.held host.old).input.faults (H.held host.new).input.faults ⊎ Rose (H.held host.old).output.faults (H.held host.new).output.faults }
+    ensures unbuilt { result ≡ Status.Text → DoesNotCompile (H.held host.new).text }
+    ensures fault_line { result ≡ Status.Text → Prints (H.held host.old).output (H.held host.new).output (codes "1:1: Unbuilt\n") }
+    ensures fault_input { result ≡ Status.Text → (H.held host.new).input ≡ (H.held host.old).input }
+    ensures host { result ≡ Status.HostFault → TextSourceFailed (H.held host.old) (H.held host.new) ⊎ Rose (count_at (H.text_faults host.old) (text_word (map string_bytes words.now.items))) (count_at (H.text_faults host.new) (text_word (map string_bytes words.now.items))) }
+    ensures quiet { result ≡ Status.HostFault → LeavesStreams (H.held host.old) (H.held host.new) }
+    ensures text { ((result ≡ Status.Done ⊎ result ≡ Status.StreamFault) ⊎ result ≡ Status.Text) → ReturnsText (H.texts host.old) (text_word (map string_bytes words.now.items)) (H.held host.old) (H.held host.new) }
+{
+    match read_words(words) {
+        Words::Ask(moment) => run_ask(alloc, host, words[1].as_str(), words[2].as_str(), moment),
+        Words::Usage(why) => {
+            print_line(host, USAGE);
+            Status::Words(why)
+        }
+    }
+}
