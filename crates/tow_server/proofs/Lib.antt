@@ -1,2 +1,3 @@
 pub mod Compiling
+pub mod Completing
 pub mod Numbers

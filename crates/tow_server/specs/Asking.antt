@@ -1,5 +1,5 @@
 -- What `ask` leaves: what its parts show when the host has them back.
-use Rattle.std.specs.Prelude.{◌≡◌, ℕ, ◌<◌, ◌⊎◌, List, [], ◌++◌, length, Option, Some, None, IfSome}
+use Rattle.std.specs.Prelude.{◌≡◌, ℕ, ◌<◌, ◌⊎◌, List, [], ◌++◌, length, Option, Some, None, IfSome, IsSomeAnd}
 use Rattle.std.specs.Io.KnownBytes.{append_known}
 use Rattle.tow_link.specs.Data.{Told, SourceData, SinkData, Rose}
 use Rattle.tow_link.specs.Runs.{AppendsPart}
@@ -13,10 +13,11 @@ use Rattle.tow_conn.specs.Turns.{Moments, WritesWire, WritesPart}
 abbrev pub Texts : Type 0
 Texts = Option (List (List ℕ × List ℕ))
 
--- one more text source was handed back, and where it and the host tell, what it had were the bytes under this name
+-- one more text source was handed back, and where the host tells its texts, what the source had were the bytes under this
+-- name
 pub record ReturnsText (texts : Texts) (name : List ℕ) (old new : Held) : Type 0 where
   pub returned : Rose old.returned new.returned
-  pub named : IfSome texts (λ told. IfSome new.text.told (λ text. text_named told name ≡ Some (text.read ++ text.left)))
+  pub named : IfSome texts (λ told. IsSomeAnd new.text.told (λ text. text_named told name ≡ Some (text.read ++ text.left)))
 
 -- where the text tells: it was read to its end, and it is that of a tree, of which the fact holds
 abbrev pub Compiles : SourceData → (List Statement → Type 0) → Type 0
@@ -45,6 +46,29 @@ pub record LeavesStreams (old new : Held) : Type 0 where
 abbrev pub Prints : SinkData → SinkData → List ℕ → Type 0
 Prints old new line = (new.written ≡ append_known old.written line) ⊎ (AppendsPart old.written new.written line × Rose old.faults new.faults)
 
--- the source of the text failed
-abbrev pub TextSourceFailed : Held → Held → Type 0
-TextSourceFailed old new = Rose old.returned new.returned × (0 < new.text.faults)
+-- the source of the text of this name failed
+pub record TextSourceFailed (texts : Texts) (name : List ℕ) (old new : Held) : Type 0 where
+  pub returned : ReturnsText texts name old new
+  pub failed : 0 < new.text.faults
+
+-- the output gained a front of the wire of the input under the text of this name
+pub record AsksPartOf (texts : Texts) (name : List ℕ) (table : Moments) (old new : Held) : Type 0 where
+  pub returned : ReturnsText texts name old new
+  pub part : AsksPart table old new
+
+-- the text source that was handed back last is as it was
+pub record LeavesText (old new : Held) : Type 0 where
+  pub text : new.text ≡ old.text
+  pub returned : new.returned ≡ old.returned
+
+-- the host tells its texts, and the one under this name has a tree
+abbrev pub IsRightText : Texts → List ℕ → Type 0
+IsRightText None name = ⊥
+IsRightText (Some texts) name = IsSomeAnd (text_named texts name) (λ bytes. (tree : List Statement) × IsTextOf bytes tree)
+
+-- nothing failed in this call: not the text's source, not the host's call with this name, not the input, not the output
+pub record NothingFailed (texts : Texts) (text : List ℕ) (old new : Held) (before now : ℕ) : Type 0 where
+  pub source : ¬ (TextSourceFailed texts text old new)
+  pub name : ¬ (Rose before now)
+  pub input : ¬ (Rose old.input.faults new.input.faults)
+  pub output : ¬ (Rose old.output.faults new.output.faults)

@@ -7,7 +7,7 @@ ghost use Rattle.tow_model.specs.declared.statement.Statement.{Statement};
 ghost use Rattle.tow_model.specs.FirstText.{IsTextOf};
 ghost use Rattle.tow_site.specs.Built.{is_built};
 ghost use Rattle.tow_conn.specs.Turns.{WritesWire, WritesPart};
-ghost use Rattle.tow_server.specs.Asking.{ReturnsText, AsksWire, AsksPart, DoesNotCompile, LeavesStreams, Prints, TextSourceFailed};
+ghost use Rattle.tow_server.specs.Asking.{ReturnsText, AsksWire, AsksPart, AsksPartOf, DoesNotCompile, LeavesStreams, Prints, TextSourceFailed, IsRightText, NothingFailed};
 
 use crate::printing::print_line;
 use crate::status::{Status, Why};
@@ -137,13 +137,16 @@ pub fn run_ask<H: Host>(
     ensures home { H.is_home host.new ≡ true }
     ensures done { result ≡ Status.Done → AsksWire (clock_table (H.moments host.old) moment) (H.held host.old) (H.held host.new) }
     ensures part { result ≡ Status.StreamFault → AsksPart (clock_table (H.moments host.old) moment) (H.held host.old) (H.held host.new) }
-    ensures memory { result ≡ Status.NoMemory → LeavesStreams (H.held host.old) (H.held host.new) ⊎ AsksPart (clock_table (H.moments host.old) moment) (H.held host.old) (H.held host.new) }
+    ensures memory { result ≡ Status.NoMemory → LeavesStreams (H.held host.old) (H.held host.new) ⊎ AsksPartOf (H.texts host.old) text.now (clock_table (H.moments host.old) moment) (H.held host.old) (H.held host.new) }
     ensures stream { result ≡ Status.StreamFault → Rose (H.held host.old).input.faults (H.held host.new).input.faults ⊎ Rose (H.held host.old).output.faults (H.held host.new).output.faults }
     ensures unbuilt { result ≡ Status.Text → DoesNotCompile (H.held host.new).text }
     ensures fault_line { result ≡ Status.Text → Prints (H.held host.old).output (H.held host.new).output (codes "1:1: Unbuilt\n") }
     ensures fault_input { result ≡ Status.Text → (H.held host.new).input ≡ (H.held host.old).input }
-    ensures host { result ≡ Status.HostFault → TextSourceFailed (H.held host.old) (H.held host.new) ⊎ Rose (count_at (H.text_faults host.old) text.now) (count_at (H.text_faults host.new) text.now) }
+    ensures host { result ≡ Status.HostFault → TextSourceFailed (H.texts host.old) text.now (H.held host.old) (H.held host.new) ⊎ Rose (count_at (H.text_faults host.old) text.now) (count_at (H.text_faults host.new) text.now) }
     ensures quiet { result ≡ Status.HostFault → LeavesStreams (H.held host.old) (H.held host.new) }
+    ensures complete { IsRightText (H.texts host.old) text.now
+        → NothingFailed (H.texts host.old) text.now (H.held host.old) (H.held host.new) (count_at (H.text_faults host.old) text.now) (count_at (H.text_faults host.new) text.now)
+        → result ≡ Status.Done ⊎ result ≡ Status.NoMemory }
     ensures text { ((result ≡ Status.Done ⊎ result ≡ Status.StreamFault) ⊎ result ≡ Status.Text) → ReturnsText (H.texts host.old) text.now (H.held host.old) (H.held host.new) }
     ensures words { (why : Why) → result ≢ Status.Words why }
 {

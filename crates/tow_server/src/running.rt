@@ -2,7 +2,7 @@ ghost use Rattle.std.specs.Prelude.{◌≡◌, ◌≢◌, ◌<◌, ◌⊎◌, �
 ghost use Rattle.tow_link.specs.Data.{Rose};
 ghost use Rattle.tow_host.specs.Counts.{count_at};
 ghost use Rattle.tow_host.specs.Moments.{clock_table};
-ghost use Rattle.tow_server.specs.Asking.{ReturnsText, AsksWire, AsksPart, DoesNotCompile, LeavesStreams, Prints, TextSourceFailed};
+ghost use Rattle.tow_server.specs.Asking.{ReturnsText, AsksWire, AsksPart, AsksPartOf, LeavesText, DoesNotCompile, LeavesStreams, Prints, TextSourceFailed, IsRightText, NothingFailed};
 ghost use Rattle.tow_server.specs.Words.{words_of, text_word, usage_line};
 
 use crate::asking::run_ask;
@@ -24,15 +24,21 @@ pub fn run<H: Host>(alloc: Global, words: &Vec<String>, host: &mut H) -> Status
     ensures only_words { (why : Why) → result ≡ Status.Words why → words_of (map string_bytes words.now.items) ≡ Words.Usage why }
     ensures usage { (why : Why) → result ≡ Status.Words why → Prints (H.held host.old).output (H.held host.new).output usage_line }
     ensures usage_input { (why : Why) → result ≡ Status.Words why → (H.held host.new).input ≡ (H.held host.old).input }
+    ensures usage_text { (why : Why) → result ≡ Status.Words why → LeavesText (H.held host.old) (H.held host.new) }
+    ensures usage_faults { (why : Why) → result ≡ Status.Words why → H.text_faults host.new ≡ H.text_faults host.old }
     ensures done { (moment : Option ℕ) → words_of (map string_bytes words.now.items) ≡ Words.Ask moment → result ≡ Status.Done → AsksWire (clock_table (H.moments host.old) moment) (H.held host.old) (H.held host.new) }
     ensures part { (moment : Option ℕ) → words_of (map string_bytes words.now.items) ≡ Words.Ask moment → result ≡ Status.StreamFault → AsksPart (clock_table (H.moments host.old) moment) (H.held host.old) (H.held host.new) }
-    ensures memory { (moment : Option ℕ) → words_of (map string_bytes words.now.items) ≡ Words.Ask moment → result ≡ Status.NoMemory → LeavesStreams (H.held host.old) (H.held host.new) ⊎ AsksPart (clock_table (H.moments host.old) moment) (H.held host.old) (H.held host.new) }
+    ensures memory { (moment : Option ℕ) → words_of (map string_bytes words.now.items) ≡ Words.Ask moment → result ≡ Status.NoMemory → LeavesStreams (H.held host.old) (H.held host.new) ⊎ AsksPartOf (H.texts host.old) (text_word (map string_bytes words.now.items)) (clock_table (H.moments host.old) moment) (H.held host.old) (H.held host.new) }
     ensures stream { result ≡ Status.StreamFault → Rose (H.held host.old).input.faults (H.held host.new).input.faults ⊎ Rose (H.held host.old).output.faults (H.held host.new).output.faults }
     ensures unbuilt { result ≡ Status.Text → DoesNotCompile (H.held host.new).text }
     ensures fault_line { result ≡ Status.Text → Prints (H.held host.old).output (H.held host.new).output (codes "1:1: Unbuilt\n") }
     ensures fault_input { result ≡ Status.Text → (H.held host.new).input ≡ (H.held host.old).input }
-    ensures host { result ≡ Status.HostFault → TextSourceFailed (H.held host.old) (H.held host.new) ⊎ Rose (count_at (H.text_faults host.old) (text_word (map string_bytes words.now.items))) (count_at (H.text_faults host.new) (text_word (map string_bytes words.now.items))) }
+    ensures host { result ≡ Status.HostFault → TextSourceFailed (H.texts host.old) (text_word (map string_bytes words.now.items)) (H.held host.old) (H.held host.new) ⊎ Rose (count_at (H.text_faults host.old) (text_word (map string_bytes words.now.items))) (count_at (H.text_faults host.new) (text_word (map string_bytes words.now.items))) }
     ensures quiet { result ≡ Status.HostFault → LeavesStreams (H.held host.old) (H.held host.new) }
+    ensures complete { (moment : Option ℕ) → words_of (map string_bytes words.now.items) ≡ Words.Ask moment
+        → IsRightText (H.texts host.old) (text_word (map string_bytes words.now.items))
+        → NothingFailed (H.texts host.old) (text_word (map string_bytes words.now.items)) (H.held host.old) (H.held host.new) (count_at (H.text_faults host.old) (text_word (map string_bytes words.now.items))) (count_at (H.text_faults host.new) (text_word (map string_bytes words.now.items)))
+        → result ≡ Status.Done ⊎ result ≡ Status.NoMemory }
     ensures text { ((result ≡ Status.Done ⊎ result ≡ Status.StreamFault) ⊎ result ≡ Status.Text) → ReturnsText (H.texts host.old) (text_word (map string_bytes words.now.items)) (H.held host.old) (H.held host.new) }
 {
     match read_words(words) {
