@@ -13,6 +13,7 @@ pub record MemoryHostData : Type 0 where
   pub texts : List (List ℕ × List ℕ)
   pub moments : MomentsData
   pub text_faults : List (List ℕ × ℕ)
+  pub handed : ℕ
 
 -- a name and its count
 abbrev pub entry_of : NameCount → List ℕ × ℕ

@@ -1,4 +1,5 @@
 ghost use Rattle.std.specs.Prelude.{◌≡◌, ℕ, ◌+◌, ◌<◌, ◌≤◌, ◌||◌, Bool, true, false, List, Option, Err, IfOk, is_some, if◌then◌else◌};
+ghost use Rattle.std.specs.Result.{is_ok};
 ghost use Rattle.std.specs.Option.{ForSome, option_map_or};
 ghost use Rattle.tow_link.specs.Data.{Rose, raised};
 ghost use Rattle.tow_host.specs.Counts.{Counts, count_at, KeepsOthers};
@@ -44,6 +45,9 @@ pub trait Host {
     /// How often `text` has failed, by name.
     ghost text_faults: { Self → Counts };
 
+    /// How many text sources it has handed out.
+    ghost handed: { Self → ℕ };
+
     /// Where it tells: its texts, each under a name.
     ghost texts: { Self → Option (List (List ℕ × List ℕ)) };
 
@@ -58,6 +62,7 @@ pub trait Host {
             → Rose (count_at (text_faults self.old) name.now) (count_at (text_faults self.new) name.now) }
         ensures later { count_at (text_faults self.old) name.now ≤ count_at (text_faults self.new) name.now }
         ensures others { KeepsOthers (text_faults self.old) (text_faults self.new) name.now }
+        ensures handed { handed self.new ≡ (if is_ok result then raised (handed self.old) else handed self.old) }
         ensures held { held self.new ≡ held self.old }
         ensures home { is_home self.new ≡ is_home self.old }
         ensures texts { texts self.new ≡ texts self.old }
@@ -68,6 +73,7 @@ pub trait Host {
     fn clock(&mut self, moment: Option<u64>) -> Self::Clock
         requires { ForSome moment (λ second. second < 253402300800) }
         ensures table { Self.Clock.table result ≡ clock_table (moments self.old) moment }
+        ensures handed { handed self.new ≡ handed self.old }
         ensures faults { text_faults self.new ≡ text_faults self.old }
         ensures held { held self.new ≡ held self.old }
         ensures home { is_home self.new ≡ is_home self.old }
@@ -82,6 +88,7 @@ pub trait Host {
         ensures out { is_home self.new ≡ false }
         ensures text { (held self.new).text ≡ (held self.old).text }
         ensures returned { (held self.new).returned ≡ (held self.old).returned }
+        ensures handed { handed self.new ≡ handed self.old }
         ensures faults { text_faults self.new ≡ text_faults self.old }
         ensures texts { texts self.new ≡ texts self.old }
         ensures moments { moments self.new ≡ moments self.old };
@@ -96,6 +103,7 @@ pub trait Host {
         ensures output { (held self.new).output
             ≡ option_map_or (output_shown Self.Output.shows) kept.streams (held self.old).output }
         ensures home { is_home self.new ≡ (is_some kept.streams || is_home self.old) }
+        ensures handed { handed self.new ≡ handed self.old }
         ensures faults { text_faults self.new ≡ text_faults self.old }
         ensures texts { texts self.new ≡ texts self.old }
         ensures moments { moments self.new ≡ moments self.old };

@@ -17,6 +17,7 @@ pub struct MemoryHost {
     failing: CallNumbers,
     faults: NameCounts,
     kept_text: Option<MemorySource>,
+    handed: u64,
     returned: u64,
     streams: Option<Joined<MemorySource, MemorySink>>,
 }
@@ -34,6 +35,7 @@ impl Model for MemoryHost {
       texts = host.texts;
       moments = host.clock;
       text_faults = host.faults;
+      handed = host.handed;
     } };
 
     ghost invariant = { λ host. is_some host.kept_text ≡ nat_lt 0 host.returned };
@@ -54,6 +56,7 @@ impl MemoryHost {
           texts = texts;
           moments = clock;
           text_faults = [];
+          handed = 0;
         } }
     {
         MemoryHost {
@@ -62,6 +65,7 @@ impl MemoryHost {
             failing: CallNumbers::new(failing),
             faults: NameCounts::new(alloc),
             kept_text: None,
+            handed: 0,
             returned: 0,
             streams: Some(streams),
         }
@@ -121,6 +125,8 @@ impl Host for MemoryHost {
 
     ghost text_faults = { λ host. own_counts host.text_faults };
 
+    ghost handed = { λ host. host.handed };
+
     ghost texts = { λ host. Some host.texts };
 
     ghost moments = { λ host. Some (second_at host.moments) };
@@ -131,7 +137,10 @@ impl Host for MemoryHost {
             return Err(failed(&mut self.faults, name));
         }
         match self.texts.open(name) {
-            Ok(Some(source)) => Ok(source),
+            Ok(Some(source)) => {
+                self.handed = self.handed.saturating_add(1);
+                Ok(source)
+            }
             Ok(None) => Err(failed(&mut self.faults, name)),
             Err(_) => Err(HostFault::NoMemory),
         }
@@ -155,6 +164,7 @@ impl Host for MemoryHost {
         ensures input { self.new.held.input ≡ option_map_or (input_shown (λ input. input)) kept.streams self.old.held.input }
         ensures output { self.new.held.output ≡ option_map_or (output_shown (λ output. output)) kept.streams self.old.held.output }
         ensures home { self.new.is_home ≡ (is_some kept.streams || self.old.is_home) }
+        ensures handed { self.new.handed ≡ self.old.handed }
         ensures faults { self.new.text_faults ≡ self.old.text_faults }
         ensures texts { self.new.texts ≡ self.old.texts }
         ensures moments { self.new.moments ≡ self.old.moments }

@@ -28,6 +28,7 @@ fn keep_text<H: Host>(host: &mut H, source: H::Text)
     ensures returned { (H.held host.new).returned ≡ raised (H.held host.old).returned }
     ensures input { (H.held host.new).input ≡ (H.held host.old).input }
     ensures output { (H.held host.new).output ≡ (H.held host.old).output }
+    ensures handed { H.handed host.new ≡ H.handed host.old }
     ensures faults { H.text_faults host.new ≡ H.text_faults host.old }
     ensures texts { H.texts host.new ≡ H.texts host.old }
     ensures moments { H.moments host.new ≡ H.moments host.old }
@@ -46,6 +47,7 @@ fn refuse_text<H: Host>(host: &mut H, source: H::Text)
     ensures returned { (H.held host.new).returned ≡ raised (H.held host.old).returned }
     ensures input { (H.held host.new).input ≡ (H.held host.old).input }
     ensures prints { Prints (H.held host.old).output (H.held host.new).output (codes "1:1: Unbuilt\n") }
+    ensures handed { H.handed host.new ≡ H.handed host.old }
     ensures faults { H.text_faults host.new ≡ H.text_faults host.old }
 {
     keep_text(host, source);
@@ -70,6 +72,7 @@ fn ask_tree<H: Host>(
     ensures part { WritesPart tree.now (clock_table (H.moments host.old) moment) (H.held host.old).input.told (H.held host.old).output.written (H.held host.new).output.written }
     ensures stream { result ≡ Status.StreamFault → Rose (H.held host.old).input.faults (H.held host.new).input.faults ⊎ Rose (H.held host.old).output.faults (H.held host.new).output.faults }
     ensures ends { (result ≡ Status.Done ⊎ result ≡ Status.StreamFault) ⊎ result ≡ Status.NoMemory }
+    ensures handed { H.handed host.new ≡ H.handed host.old }
     ensures faults { H.text_faults host.new ≡ H.text_faults host.old }
 {
     let mut clock = host.clock(moment);
@@ -108,6 +111,7 @@ fn ask_text<H: Host>(
     ensures fault_line { result ≡ Status.Text → Prints (H.held host.old).output (H.held host.new).output (codes "1:1: Unbuilt\n") }
     ensures fault_input { result ≡ Status.Text → (H.held host.new).input ≡ (H.held host.old).input }
     ensures ends { ((result ≡ Status.Done ⊎ result ≡ Status.StreamFault) ⊎ result ≡ Status.NoMemory) ⊎ result ≡ Status.Text }
+    ensures handed { H.handed host.new ≡ H.handed host.old }
     ensures faults { H.text_faults host.new ≡ H.text_faults host.old }
 {
     match read_text(alloc, bytes) {
@@ -135,6 +139,7 @@ pub fn run_ask<H: Host>(
     requires home { H.is_home host.old ≡ true }
     requires small { ForSome moment (λ m. m < 253402300800) }
     ensures home { H.is_home host.new ≡ true }
+    ensures back { H.handed host.old ≡ (H.held host.old).returned → H.handed host.new ≡ (H.held host.new).returned }
     ensures done { result ≡ Status.Done → AsksWire (clock_table (H.moments host.old) moment) (H.held host.old) (H.held host.new) }
     ensures part { result ≡ Status.StreamFault → AsksPart (clock_table (H.moments host.old) moment) (H.held host.old) (H.held host.new) }
     ensures memory { result ≡ Status.NoMemory → LeavesStreams (H.held host.old) (H.held host.new) ⊎ AsksPartOf (H.texts host.old) text.now (clock_table (H.moments host.old) moment) (H.held host.old) (H.held host.new) }

@@ -12,6 +12,7 @@ pub fn print_line<H: Host>(host: &mut H, line: &[u8])
     ensures input { (H.held host.new).input ≡ (H.held host.old).input }
     ensures text { (H.held host.new).text ≡ (H.held host.old).text }
     ensures returned { (H.held host.new).returned ≡ (H.held host.old).returned }
+    ensures handed { H.handed host.new ≡ H.handed host.old }
     ensures faults { H.text_faults host.new ≡ H.text_faults host.old }
     ensures texts { H.texts host.new ≡ H.texts host.old }
     ensures moments { H.moments host.new ≡ H.moments host.old }

@@ -26,6 +26,7 @@ pub fn run<H: Host>(alloc: Global, words: &Vec<String>, host: &mut H) -> Status
     ensures usage_input { (why : Why) → result ≡ Status.Words why → (H.held host.new).input ≡ (H.held host.old).input }
     ensures usage_text { (why : Why) → result ≡ Status.Words why → LeavesText (H.held host.old) (H.held host.new) }
     ensures usage_faults { (why : Why) → result ≡ Status.Words why → H.text_faults host.new ≡ H.text_faults host.old }
+    ensures back { H.handed host.old ≡ (H.held host.old).returned → H.handed host.new ≡ (H.held host.new).returned }
     ensures done { (moment : Option ℕ) → words_of (map string_bytes words.now.items) ≡ Words.Ask moment → result ≡ Status.Done → AsksWire (clock_table (H.moments host.old) moment) (H.held host.old) (H.held host.new) }
     ensures part { (moment : Option ℕ) → words_of (map string_bytes words.now.items) ≡ Words.Ask moment → result ≡ Status.StreamFault → AsksPart (clock_table (H.moments host.old) moment) (H.held host.old) (H.held host.new) }
     ensures memory { (moment : Option ℕ) → words_of (map string_bytes words.now.items) ≡ Words.Ask moment → result ≡ Status.NoMemory → LeavesStreams (H.held host.old) (H.held host.new) ⊎ AsksPartOf (H.texts host.old) (text_word (map string_bytes words.now.items)) (clock_table (H.moments host.old) moment) (H.held host.old) (H.held host.new) }

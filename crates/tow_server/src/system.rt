@@ -28,6 +28,7 @@ pub struct SystemClock {
 pub struct SystemHost {
     rt: HostRuntime,
     faults: u64,
+    handed: u64,
     returned: u64,
     streams: Option<Joined<Reading<Stdin>, Writing<Stdout>>>,
     kept_text: Option<Reading<File>>,
@@ -73,6 +74,7 @@ impl SystemHost {
         SystemHost {
             rt,
             faults: 0,
+            handed: 0,
             returned: 0,
             streams: Some(Joined { input, output }),
             kept_text: None,
@@ -95,13 +97,18 @@ impl Host for SystemHost {
 
     ghost text_faults = { λ host. record { named = []; others = host.faults } };
 
+    ghost handed = { λ host. host.handed };
+
     ghost texts = { λ host. None };
 
     ghost moments = { λ host. None };
 
     fn text(&mut self, name: &str) -> Result<Reading<File>, HostFault> {
         match File::open(&self.rt, name) {
-            Ok(inner) => Ok(Reading { inner, faults: 0 }),
+            Ok(inner) => {
+                self.handed = self.handed.saturating_add(1);
+                Ok(Reading { inner, faults: 0 })
+            }
             Err(_) => {
                 self.faults = self.faults.saturating_add(1);
                 Err(HostFault::Failed)
@@ -127,6 +134,7 @@ impl Host for SystemHost {
         ensures input { (⟦<SystemHost as Host>⟧.held self.new).input ≡ option_map_or (input_shown ⟦<Reading<Stdin> as Source>⟧.shows) kept.streams (⟦<SystemHost as Host>⟧.held self.old).input }
         ensures output { (⟦<SystemHost as Host>⟧.held self.new).output ≡ option_map_or (output_shown ⟦<Writing<Stdout> as Sink>⟧.shows) kept.streams (⟦<SystemHost as Host>⟧.held self.old).output }
         ensures home { ⟦<SystemHost as Host>⟧.is_home self.new ≡ (is_some kept.streams || ⟦<SystemHost as Host>⟧.is_home self.old) }
+        ensures handed { ⟦<SystemHost as Host>⟧.handed self.new ≡ ⟦<SystemHost as Host>⟧.handed self.old }
         ensures faults { ⟦<SystemHost as Host>⟧.text_faults self.new ≡ ⟦<SystemHost as Host>⟧.text_faults self.old }
         ensures texts { ⟦<SystemHost as Host>⟧.texts self.new ≡ ⟦<SystemHost as Host>⟧.texts self.old }
         ensures moments { ⟦<SystemHost as Host>⟧.moments self.new ≡ ⟦<SystemHost as Host>⟧.moments self.old }
