@@ -9,7 +9,7 @@ use Rattle.tow_model.specs.declared.statement.Statement.{Statement, fold-Stateme
 use Rattle.tow_model.specs.declared.statement.Statement.TheVariants as statements
 use Rattle.tow_model.specs.declared.statement.Statement.TheOpen as open_statements
 use Rattle.tow_model.specs.Texts.{Text}
-use Rattle.tow_model.specs.FirstText.{AreLines, statement_for}
+use Rattle.tow_first.specs.FirstText.{AreLines, statement_for}
 use Rattle.tow_model.specs.Paths.{rooted}
 use Rattle.tow_site.specs.Built.{is_built, is_built_predicate, is_built_statement, built_predicate_by, built_statement_by}
 use Rattle.tow_first.proofs.Reading.{AreRead, kept}

@@ -4,7 +4,7 @@ use Rattle.std.specs.List.{list_all, take_while}
 use Rattle.std.proofs.lemmas.List.{append_cancel_left, take-append-drop}
 use Rattle.std.proofs.lemmas.List.Sums.{take_while-cons}
 use Rattle.tow_model.specs.Texts.{Text}
-use Rattle.tow_model.specs.FirstText.{is_plain_byte}
+use Rattle.tow_first.specs.FirstText.{is_plain_byte}
 
 -- the plain bytes at the front
 abbrev pub front_of : Text → Text

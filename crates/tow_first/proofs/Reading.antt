@@ -5,7 +5,7 @@ use Rattle.std.proofs.lemmas.List.Elements.{filter_map-append}
 use denote.Ref.{Bor}
 use Rattle.tow_model.specs.declared.statement.Statement.{Statement}
 use Rattle.tow_model.specs.Texts.{Text, cut_at}
-use Rattle.tow_model.specs.FirstText.{IsLine, AreLines, IsTextOf}
+use Rattle.tow_first.specs.FirstText.{IsLine, AreLines, IsTextOf}
 
 abbrev pub kept : List (Option Statement) → List Statement
 kept statements = filter_map (λ s. s) statements

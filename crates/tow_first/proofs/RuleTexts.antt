@@ -6,7 +6,7 @@ use Rattle.std.proofs.lemmas.List.{append_cancel_left, append_cancel_right}
 use Rattle.tow_model.specs.declared.statement.Statement.{Statement}
 use Rattle.tow_model.specs.Texts.{Text}
 use Rattle.tow_model.specs.Writing.{read_status}
-use Rattle.tow_model.specs.FirstText.{Rule, IsRule, IsPlainPath, IsLine, is_plain_byte, rule_text}
+use Rattle.tow_first.specs.FirstText.{Rule, IsRule, IsPlainPath, IsLine, is_plain_byte, rule_text}
 use Rattle.tow_first.specs.Parts.{Answers, IsGuarded, IsRuleText}
 use Rattle.tow_first.proofs.Fronts.{IsCut, all_plain, cut_is}
 

@@ -4,7 +4,7 @@ use Rattle.std.proofs.lemmas.List.{append_cancel_left, append_cancel_right}
 use Rattle.tow_model.specs.declared.statement.Statement.{Statement}
 use Rattle.tow_model.specs.Texts.{Text, cut_at}
 use Rattle.tow_model.specs.Writing.{read_status}
-use Rattle.tow_model.specs.FirstText.{IsPlainPath, IsLine, AreLines, OneTree, rule_text, statement_for}
+use Rattle.tow_first.specs.FirstText.{IsPlainPath, IsLine, AreLines, OneTree, rule_text, statement_for}
 use Rattle.tow_first.proofs.Fronts.{same_path}
 use Rattle.tow_first.proofs.RuleTexts.{guarded_text, two_heads}
 use Rattle.tow_first.proofs.Reading.{kept}

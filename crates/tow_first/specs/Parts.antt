@@ -3,7 +3,7 @@ use Rattle.std.specs.Prelude.{◌≡◌, ℕ, ◌<◌, ◌++◌, length, IsTrue,
 use Rattle.std.specs.List.{list_all}
 use Rattle.tow_model.specs.Texts.{Text}
 use Rattle.tow_model.specs.Writing.{read_status}
-use Rattle.tow_model.specs.FirstText.{Rule, IsRule, is_plain_byte, rule_text}
+use Rattle.tow_first.specs.FirstText.{Rule, IsRule, is_plain_byte, rule_text}
 
 -- `response-code(N)`
 abbrev pub Answers : Text → ℕ → Type 0

@@ -1,7 +1,7 @@
 ghost use Rattle.std.specs.Prelude.{◌≡◌, Option, IfOk};
 ghost use Rattle.std.specs.Option.{option_copied};
 ghost use Rattle.tow_model.specs.declared.statement.Statement.{Statement};
-ghost use Rattle.tow_model.specs.FirstText.{IsLine, statement_for};
+ghost use Rattle.tow_first.specs.FirstText.{IsLine, statement_for};
 
 use crate::paths::rooted;
 use crate::rules::{Rule, read_rule};

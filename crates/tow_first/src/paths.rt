@@ -1,5 +1,5 @@
 ghost use Rattle.std.specs.Prelude.{◌≡◌, IfOk, length, take_while};
-ghost use Rattle.tow_model.specs.FirstText as model;
+ghost use Rattle.tow_first.specs.FirstText as model;
 ghost use Rattle.tow_model.specs.Paths as paths;
 
 use std::alloc::{AllocError, Global};

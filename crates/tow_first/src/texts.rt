@@ -1,6 +1,6 @@
 ghost use Rattle.std.specs.Prelude.{◌≡◌, List, IfOk, IsTrue};
 ghost use Rattle.tow_model.specs.declared.statement.Statement.{Statement};
-ghost use Rattle.tow_model.specs.FirstText.{IsTextOf, OneTree};
+ghost use Rattle.tow_first.specs.FirstText.{IsTextOf, OneTree};
 ghost use Rattle.tow_site.specs.Built.{is_built};
 
 use crate::lines::read_line;

@@ -5,7 +5,7 @@ use Rattle.std.proofs.lemmas.List.Folds.{drop_split}
 use Rattle.std.specs.List.{list_all}
 use Rattle.tow_model.specs.Tokens.{is_white, begins_piece, opens_brace, are_pieces, no_piece, is_quote, are_escaped, last_byte, is_open, IsQuoted, IsOpenQuote, IsOpenBrace}
 use Rattle.tow_lex.specs.Scan.{Leads}
-use Rattle.tow_lex.proofs.Spans.{byte_then, none_then, span_none, span_step, span_more, span_end}
+use Rattle.tow_model.proofs.Spans.{byte_then, none_then, span_none, span_step, span_more, span_end}
 
 pub white_step : (text : List ℕ) (at to : ℕ) → at < to → at < length text → is_white (get_or text at 0) ≡ true →
     list_all is_white (slice_range text at to) ≡ list_all is_white (slice_range text (at + 1) to)

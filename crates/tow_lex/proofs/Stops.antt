@@ -14,23 +14,12 @@ use Rattle.tow_model.specs.declared.token.TokenKind.{TokenKind}
 use Rattle.tow_model.specs.declared.token.TokenKind.TheVariants.{Quoted, Word}
 use Rattle.tow_model.specs.Tokens.{is_white, are_pieces, CutsUpTo, Reaches, HasFault, IsTokenFault, IsOpenBrace}
 use Rattle.tow_model.proofs.Cut.{IsStuck, over, quote, stray, brace, one_cut, one_open, quote_kind, open_kind, stray_kind, kind_at}
-use Rattle.tow_model.proofs.Kept.{quote_fault, stray_fault, brace_fault}
+use Rattle.tow_model.proofs.Kept.{quote_fault, stray_fault, brace_fault, one_stop, kinds_apart}
 use Rattle.tow_lex.specs.declared.fault.LexFault.{LexFault}
 use Rattle.tow_lex.specs.declared.fault.LexFault.TheVariants.{UnclosedQuote, UnclosedBrace, StrayByte, TooLong, NoMemory}
 use Rattle.tow_lex.specs.Faults.{lex_fault, comes_before}
 use Rattle.tow_lex.specs.Scan.{IsNext, StopsHere, Stops}
-use Rattle.tow_lex.proofs.Spans.{span_length}
-
--- two places at which a text stops are one
-one_stop : (text : List ℕ) (p q : ℕ) (left right : List ℕ) → Reaches text p left → Reaches text q right → IsStuck left → IsStuck right → (p ≡ q) × (left ≡ right)
-one_stop text p q left right (ts, cut, e) (us, cut2, f) m n =
-    let o = one_cut 0 text ts us left right cut cut2 m n in
-    let g : length left ≡ length right = ap length o.1 in
-    (omega (arith, e, f, g), o.1)
-
--- bytes that begin tokens of two kinds differ
-kinds_apart : (a b : List ℕ) (j k : TokenKind) → a ≡ b → kind_at a ≡ Some j → kind_at b ≡ Some k → j ≡ k
-kinds_apart a b j k e f g = let h : Some j ≡ Some k = sym f ∙ ap kind_at e ∙ g in cc
+use Rattle.tow_model.proofs.Spans.{span_length}
 
 -- white space, and then nothing more that is cut
 pub gap_cuts : (text : List ℕ) (end from : ℕ) → end ≤ from → list_all is_white (slice_range text end from) ≡ true → CutsUpTo end (drop end text) [] (drop from text)

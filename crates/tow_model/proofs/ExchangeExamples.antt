@@ -109,7 +109,7 @@ two_lines_are_joined : value_of (piece.Value (attribute.RequestField (codes "x")
 unfolding plain get
 two_lines_are_joined = refl
 
--- row log-order's lines
+-- a line of a literal and the status
 a_line : line_of (piece.Literal (codes "b ") ∷ piece.Value attribute.Status ∷ []) (get (codes "/a") []) (record plain { status = 204; choice = choice.Empty }) 0 ≡ codes "b 204"
 unfolding plain get digits
 a_line = refl
@@ -146,7 +146,7 @@ no_date : found_page site [] false (if_modified_since (codes "yesterday")) (star
 unfolding site if_modified_since get is_utf8 chars encode days_of_years days_of_months parse read_name read_tag parse_imf_fixdate read_two_digits read_year read_time
 no_date = refl
 
--- row folder-1
+-- a directory without its last slash, and with it
 a_directory : found_page site [] false (get (codes "/d") []) (record (start (get (codes "/d") [])) { query = Some (codes "x=1") }) ≡ page.Redirect (codes "/d/?x=1")
 unfolding site get is_utf8 chars encode
 a_directory = refl
@@ -163,7 +163,7 @@ nothing_below_a_file : found_page site [] false (get (codes "/index.html/") []) 
 unfolding site get is_utf8 chars encode
 nothing_below_a_file = refl
 
--- row listing: 92 bytes and P, and 25 + 2n for a name of n bytes
+-- a listing has 92 bytes and P, and 25 + 2n for a name of n bytes
 an_empty_listing : length (listing_of (codes "/d/") []) ≡ 92 + 3
 an_empty_listing = refl
 

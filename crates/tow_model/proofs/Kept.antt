@@ -31,7 +31,7 @@ is_one_derivation text a b (ts, cut, reads) (us, cut2, reads2) =
     one_derivation a b (joined 0 (symbols_of text ts)) reads.1 (subst (λ ks. ListThen b AtEnd (joined 0 (symbols_of text ks))) same reads2.1)
 
 -- two places at which the text stops are one
-one_stop : (text : List ℕ) (p q : ℕ) (left right : List ℕ) → Reaches text p left → Reaches text q right → IsStuck left → IsStuck right → (p ≡ q) × (left ≡ right)
+pub one_stop : (text : List ℕ) (p q : ℕ) (left right : List ℕ) → Reaches text p left → Reaches text q right → IsStuck left → IsStuck right → (p ≡ q) × (left ≡ right)
 one_stop text p q left right (ts, cut, e) (us, cut2, f) m n =
     let o = one_cut 0 text ts us left right cut cut2 m n in
     let g : length left ≡ length right = ap length o.1 in
@@ -58,7 +58,7 @@ no_earlier text place left r m valid TooManyLimits earlier h = absurd h
 no_earlier text place left r m valid BadPattern earlier h = absurd h
 no_earlier text place left r m valid LargePattern earlier h = absurd h
 
-kinds_apart : (a b : List ℕ) (j k : TokenKind) → a ≡ b → kind_at a ≡ Some j → kind_at b ≡ Some k → j ≡ k
+pub kinds_apart : (a b : List ℕ) (j k : TokenKind) → a ≡ b → kind_at a ≡ Some j → kind_at b ≡ Some k → j ≡ k
 kinds_apart a b j k e f g = let h : Some j ≡ Some k = sym f ∙ ap kind_at e ∙ g in cc
 
 -- the same for an open brace, which may stand inside a word

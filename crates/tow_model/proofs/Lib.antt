@@ -14,6 +14,7 @@ mod ContentExamples
 pub mod Playing
 pub mod Equations
 pub mod Resolving
+pub mod Spans
 mod ExchangeExamples
 mod Rows
 pub mod Cut

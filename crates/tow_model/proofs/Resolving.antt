@@ -9,7 +9,7 @@ use Rattle.tow_model.specs.Paths.{slash, is_dot, is_dots, with_segment, left_beh
 abbrev has_slash : Text → Bool
 has_slash s = list_any (λ b. b == slash) s
 
-neither : (a b : Bool) → (a || b) ≡ false → (a ≡ false) × (b ≡ false)
+pub neither : (a b : Bool) → (a || b) ≡ false → (a ≡ false) × (b ≡ false)
 neither false b is = (refl, is)
 neither true b is = absurd cc
 

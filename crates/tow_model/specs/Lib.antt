@@ -24,7 +24,6 @@ pub mod Sites
 pub mod Answers
 pub mod Stream
 pub mod Wire
-pub mod FirstText
 pub mod Tokens
 pub mod Templates
 pub mod Shapes

@@ -16,13 +16,9 @@ use Rattle.tow_model.specs.Fields.{values_of, has, elements}
 use Rattle.tow_model.specs.Paths.{Place, place_of, place_at, resolved, slash, is_dot, is_dots}
 use Rattle.tow_model.specs.Heads.{fields_of, refusal, is_wrong, is_later, is_plain_target, version_of, framing_of, keeps, expects_by, request_of}
 use Rattle.tow_model.specs.Stream.{HasRequest}
-use Rattle.tow_model.proofs.Resolving.{Each, Plain, plain_resolved}
+use Rattle.tow_model.proofs.Resolving.{Each, Plain, plain_resolved, neither}
 
 -- ---- tests
-
-neither : (a b : Bool) → (a || b) ≡ false → (a ≡ false) × (b ≡ false)
-neither false b is = (refl, is)
-neither true b is = absurd cc
 
 both : (a b : Bool) → (a && b) ≡ true → (a ≡ true) × (b ≡ true)
 both true b is = (refl, is)

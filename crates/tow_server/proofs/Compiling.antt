@@ -4,7 +4,7 @@ use Rattle.std.specs.Prelude.{IfSome}
 use Rattle.tow_link.specs.Data.{Told}
 use Rattle.tow_link.specs.Calls.{Moves, IsDrained}
 use Rattle.tow_model.specs.declared.statement.Statement.{Statement}
-use Rattle.tow_model.specs.FirstText.{IsTextOf}
+use Rattle.tow_first.specs.FirstText.{IsTextOf}
 
 abbrev IsNone : List ℕ → Type 0
 IsNone bytes = (tree : List Statement) → ¬ (IsTextOf bytes tree)

@@ -8,7 +8,7 @@ use Rattle.tow_link.specs.Calls.{Moves}
 use Rattle.tow_host.specs.Held.{Held}
 use Rattle.tow_host.specs.Texts.{text_named, ShowsText}
 use Rattle.tow_model.specs.declared.statement.Statement.{Statement}
-use Rattle.tow_model.specs.FirstText.{IsTextOf}
+use Rattle.tow_first.specs.FirstText.{IsTextOf}
 use Rattle.tow_server.specs.declared.status.Status.{Status}
 use Rattle.tow_server.specs.declared.status.Status.TheVariants.{Done, Text, NoMemory, StreamFault}
 use Rattle.tow_server.specs.Asking.{Texts, IsRightText, NothingFailed}

@@ -6,7 +6,7 @@ use Rattle.tow_link.specs.Runs.{AppendsPart}
 use Rattle.tow_host.specs.Held.{Held}
 use Rattle.tow_host.specs.Texts.{text_named}
 use Rattle.tow_model.specs.declared.statement.Statement.{Statement}
-use Rattle.tow_model.specs.FirstText.{IsTextOf}
+use Rattle.tow_first.specs.FirstText.{IsTextOf}
 use Rattle.tow_conn.specs.Turns.{Moments, WritesWire, WritesPart}
 
 -- where a host tells: its texts, by name

@@ -4,7 +4,7 @@ ghost use Rattle.tow_link.specs.Data.{Rose, raised};
 ghost use Rattle.tow_host.specs.Counts.{count_at};
 ghost use Rattle.tow_host.specs.Moments.{clock_table};
 ghost use Rattle.tow_model.specs.declared.statement.Statement.{Statement};
-ghost use Rattle.tow_model.specs.FirstText.{IsTextOf};
+ghost use Rattle.tow_first.specs.FirstText.{IsTextOf};
 ghost use Rattle.tow_site.specs.Built.{is_built};
 ghost use Rattle.tow_conn.specs.Turns.{WritesWire, WritesPart};
 ghost use Rattle.tow_server.specs.Asking.{ReturnsText, AsksWire, AsksPart, AsksPartOf, DoesNotCompile, LeavesStreams, Prints, TextSourceFailed, IsRightText, NothingFailed};

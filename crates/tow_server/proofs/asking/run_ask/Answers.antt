@@ -1,7 +1,7 @@
 use Rattle.std.proofs.Common.{◌≡◌, ◌⊎◌, sym, subst, List, ℕ}
 use Rattle.tow_link.specs.Data.{Rose}
 use Rattle.tow_host.specs.Held.{Held}
-use Rattle.tow_model.specs.FirstText.{IsTextOf}
+use Rattle.tow_first.specs.FirstText.{IsTextOf}
 use Rattle.tow_server.specs.Asking.{DoesNotCompile}
 use Rattle.tow_server.proofs.Compiling.{does_not_compile}
 use Rattle.tow_server.proofs.Completing.{compiled, named_after, complete_by_ends, no_rise}
