@@ -1,0 +1,4 @@
+pub mod Output
+pub mod Parts
+pub mod Scheme
+pub mod Told
