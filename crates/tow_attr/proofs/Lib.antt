@@ -4,3 +4,8 @@ pub mod Joins
 pub mod Places
 pub mod Spelled
 pub mod Names
+pub mod Signs
+pub mod Blanks
+pub mod Dated
+pub mod Found
+pub mod Cutting
