@@ -1,0 +1,29 @@
+use Rattle.std.proofs.Common.{sym, subst}
+use Rattle.tow_model.specs.Symbols.{symbol_of}
+use Rattle.tow_parse.specs.declared.call.WrittenValue.TheVariants as values
+use Rattle.tow_parse.specs.declared.goal.Phase.TheVariants as phases
+use Rattle.tow_parse.specs.declared.look.Look.TheVariants as looks
+use Rattle.tow_parse.specs.declared.phase.Place.TheVariants as places
+use Rattle.tow_parse.specs.Looks.{Shows}
+use Rattle.tow_parse.specs.Phased.{PhaseTakes, filled}
+use Rattle.tow_parse.proofs.PhaseMoves.{at, stop, text_comma, text_brace, after_text_no}
+use Rattle.tow_parse.proofs.Shown.{same_look}
+use Rattle.tow_parse.proofs.phase.at_after_text.Goals as goal
+
+pub returns-in-Comma-clause-ok : goal.returns-in-Comma-clause-ok
+returns-in-Comma-clause-ok c =
+    let s = subst (λ k. Shows k (symbol_of c.args.text.now c.args.token).sign) c.in-Comma.is c.requires.shows in
+    at c.args.square (phases.AfterText c.args.array) (symbol_of c.args.text.now c.args.token) (phases.Text c.args.array) (λ xs M. text_comma (symbol_of c.args.text.now c.args.token) xs c.args.square M c.args.array s)
+
+pub returns-in_ok-array_filled-in-CloseBrace-clause-ok : goal.returns-in_ok-array_filled-in-CloseBrace-clause-ok
+returns-in_ok-array_filled-in-CloseBrace-clause-ok c =
+    let s = subst (λ k. Shows k (symbol_of c.args.text.now c.args.token).sign) c.in-CloseBrace.is c.requires.shows in
+    subst (λ k. PhaseTakes c.args.square (phases.AfterText c.args.array) (symbol_of c.args.text.now c.args.token) (places.At (phases.After k))) (sym c.in_ok-array_filled-in-CloseBrace.ensures)
+    (at c.args.square (phases.AfterText c.args.array) (symbol_of c.args.text.now c.args.token) (phases.After (filled c.args.array.slot (values.Array c.args.array.place c.args.array.texts))) (λ xs M. text_brace (symbol_of c.args.text.now c.args.token) xs c.args.square M c.args.array s))
+
+pub returns-in_default : goal.returns-in_default
+returns-in_default c =
+    record {
+      ok = tt;
+      err = stop c.args.square (phases.AfterText c.args.array) (symbol_of c.args.text.now c.args.token) (λ xs M f a. after_text_no (symbol_of c.args.text.now c.args.token) xs c.args.square M c.args.array (λ e. c.in_default.not-Comma (same_look c.args.look looks.Comma (symbol_of c.args.text.now c.args.token).sign c.requires.shows e)) (λ e. c.in_default.not-CloseBrace (same_look c.args.look looks.CloseBrace (symbol_of c.args.text.now c.args.token).sign c.requires.shows e)) f a);
+    }
