@@ -16,10 +16,10 @@ pub record MovesAtMost (old new : Option Told) (most : ℕ) : Type 0 where
   pub moved : Moves old new bytes
   pub within : length bytes ≤ most
 
--- The answer is all that was left, which is within the limit, or says that one byte past the limit was read. Where
--- the source fails, or there is no memory, some bytes were read, at most one past the limit.
+-- The answer is all that was left, which is within the limit, or its front of one byte past the limit. Where the source
+-- fails, or there is no memory, some bytes were read, at most one past the limit.
 abbrev pub ReadsWhole : Option Told → Option Told → ℕ → Whole → Type 0
 ReadsWhole old new most (Bytes read) = Moves old new read.items × IsDrained new × (length read.items ≤ most)
-ReadsWhole old new most TooLong = (bytes : List ℕ) × Moves old new bytes × (length bytes ≡ most + 1)
+ReadsWhole old new most (TooLong read) = Moves old new read.items × (length read.items ≡ most + 1)
 ReadsWhole old new most Failed = MovesAtMost old new (most + 1)
 ReadsWhole old new most NoMemory = MovesAtMost old new (most + 1)

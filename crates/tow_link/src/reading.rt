@@ -13,8 +13,8 @@ const PIECE: usize = 4096;
 pub enum Whole {
     /// All that the source had left, within the limit.
     Bytes(Vec<u8>),
-    /// More than the limit; one byte past it was read.
-    TooLong,
+    /// The front of more than the limit: one byte past it was read.
+    TooLong(Vec<u8>),
     /// The source failed, and counted it.
     Failed,
     /// There was no memory for what was read.
@@ -41,5 +41,5 @@ pub fn read_whole<S: Source>(alloc: Global, source: &mut S, most: usize) -> Whol
             Read::Failed => return Whole::Failed,
         }
     }
-    Whole::TooLong
+    Whole::TooLong(bytes)
 }

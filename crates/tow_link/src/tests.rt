@@ -81,7 +81,10 @@ fn a_source_is_read_up_to_a_limit(rt: HostRuntime) -> Result<(), Fail> {
     let long = MemorySource::new(b"abcde".to_vec(alloc)?, [].to_vec(alloc)?);
     assert_eq!(rt;
         whole(alloc, long, 3)?,
-        (Whole::TooLong, b"abcd".to_vec(alloc)?)
+        (
+            Whole::TooLong(b"abcd".to_vec(alloc)?),
+            b"abcd".to_vec(alloc)?
+        )
     );
     let short = MemorySource::new(b"abc".to_vec(alloc)?, [].to_vec(alloc)?);
     assert_eq!(rt;
