@@ -1,63 +1,53 @@
 -- Where the text is right and nothing failed, only success and want of memory are left.
-use Rattle.std.proofs.Common.{◌≡◌, ℕ, ◌+◌, ◌≤◌, ◌⊎◌, inl, inr, List, [], ◌++◌, length, Option, Some, None, refl, sym, ap, ◌∙◌, subst, arith, length-append}
+use Rattle.std.proofs.Common.{◌≡◌, ℕ, ◌+◌, ◌≤◌, ◌⊎◌, inl, inr, Bool, true, false, List, [], ◌++◌, length, Option, Some, None, refl, sym, ap, ◌∙◌, subst, arith, length-append}
 use Rattle.std.proofs.lemmas.List.{append-nil}
 use Rattle.std.proofs.lemmas.Option.{same_Some}
 use Rattle.std.specs.Prelude.{IfSome, IsSomeAnd}
-use Rattle.tow_link.specs.Data.{Told, SourceData, Rose, fresh_source}
-use Rattle.tow_link.specs.Calls.{Moves}
+use Rattle.tow_link.specs.Data.{Told, SourceData, Rose}
 use Rattle.tow_host.specs.Held.{Held}
-use Rattle.tow_host.specs.Texts.{text_named, ShowsText}
-use Rattle.tow_model.specs.declared.statement.Statement.{Statement}
-use Rattle.tow_first.specs.FirstText.{IsTextOf}
+use Rattle.tow_host.specs.Texts.{text_named}
+use Rattle.tow_site.specs.Compiled.{SiteData, IsSiteOf}
+use Rattle.tow_site.proofs.Sites.{one_site, no_site_at_fault, is_short}
 use Rattle.tow_server.specs.declared.status.Status.{Status}
 use Rattle.tow_server.specs.declared.status.Status.TheVariants.{Done, Text, NoMemory, StreamFault}
-use Rattle.tow_server.specs.Asking.{Texts, IsRightText, NothingFailed}
+use Rattle.tow_server.specs.Lines.{IsRefusal}
+use Rattle.tow_server.specs.Loading.{Texts, IsNamed, IsRead, IsRightText, NothingFailed}
 
--- a text of some bytes is none of those that do not compile
-compiled_told : (told : Told) (bytes : List ℕ) (tree : List Statement) → IsTextOf bytes tree → bytes ≡ told.read ++ told.left
-    → (length told.read ≡ 65537) ⊎ ((told.left ≡ []) × ((t : List Statement) → ¬ (IsTextOf told.read t))) → ⊥
-compiled_told told bytes tree is same (inl long) =
-    omega (arith, is.short, ap length same, length-append told.read told.left, long)
-compiled_told told bytes tree is same (inr (over, none)) =
-    none tree (subst (λ (l : List ℕ). IsTextOf l tree) (same ∙ ap (λ (l : List ℕ). told.read ++ l) over ∙ append-nil told.read) is)
+-- the text of a site that is built is not refused
+built_not_refused : (is_built : SiteData → Bool) (bytes line : List ℕ) (site : SiteData) → IsSiteOf bytes site → is_built site ≡ true → IsRefusal is_built bytes line → ⊥
+built_not_refused is_built bytes line site is built (inl (kind, place, fault, named)) = no_site_at_fault bytes kind place site fault is
+built_not_refused is_built bytes line site is built (inr (other, is2, unbuilt, named)) =
+    let same : is_built site ≡ is_built other = ap is_built (one_site bytes site other is is2) in
+    let wrong : true ≡ false = sym built ∙ same ∙ unbuilt in cc
 
-compiled_source : (told : Option Told) (bytes : List ℕ) (tree : List Statement) → IsTextOf bytes tree → IsSomeAnd told (λ t. Some bytes ≡ Some (t.read ++ t.left))
-    → IfSome told (λ t. (length t.read ≡ 65537) ⊎ ((t.left ≡ []) × ((u : List Statement) → ¬ (IsTextOf t.read u)))) → ⊥
-compiled_source None bytes tree is named wrong = absurd named
-compiled_source (Some told) bytes tree is named wrong = compiled_told told bytes tree is (same_Some bytes (told.read ++ told.left) named) wrong
+-- nor is it where all of it was read, or 65,537 bytes
+read_not_refused : (is_built : SiteData → Bool) (told : Told) (whole bytes line : List ℕ) (site : SiteData) → IsSiteOf whole site → is_built site ≡ true → whole ≡ told.read ++ told.left
+    → told.read ≡ bytes → (told.left ≡ []) ⊎ (length bytes ≡ 65537) → IsRefusal is_built bytes line → ⊥
+read_not_refused is_built told whole bytes line site is built same read (inl over) refusal =
+    let all : whole ≡ bytes = same ∙ ap (λ (l : List ℕ). told.read ++ l) over ∙ append-nil told.read ∙ read in
+    built_not_refused is_built bytes line site (subst (λ (l : List ℕ). IsSiteOf l site) all is) built refusal
+read_not_refused is_built told whole bytes line site is built same read (inr long) refusal =
+    omega (arith, is_short whole site is, ap length same, length-append told.read told.left, ap length read, long)
 
-pub compiled : (texts : Texts) (name : List ℕ) (told : Option Told) → IsRightText texts name
-    → IfSome texts (λ ts. IsSomeAnd told (λ t. text_named ts name ≡ Some (t.read ++ t.left)))
-    → IfSome told (λ t. (length t.read ≡ 65537) ⊎ ((t.left ≡ []) × ((u : List Statement) → ¬ (IsTextOf t.read u)))) → ⊥
-compiled None name told right named wrong = absurd right
-compiled (Some texts) name told right named wrong = by (text_named texts name) right named
+source_not_refused : (is_built : SiteData → Bool) (told : Option Told) (whole bytes line : List ℕ) (site : SiteData) → IsSiteOf whole site → is_built site ≡ true
+    → IsSomeAnd told (λ t. Some whole ≡ Some (t.read ++ t.left)) → IfSome told (λ t. (t.read ≡ bytes) × ((t.left ≡ []) ⊎ (length bytes ≡ 65537)))
+    → IsRefusal is_built bytes line → ⊥
+source_not_refused is_built None whole bytes line site is built named read refusal = absurd named
+source_not_refused is_built (Some told) whole bytes line site is built named read refusal =
+    read_not_refused is_built told whole bytes line site is built (same_Some whole (told.read ++ told.left) named) read.0 read.1 refusal
+
+-- a right text that was read is not refused
+pub not_refused : (is_built : SiteData → Bool) (texts : Texts) (name : List ℕ) (source : SourceData) (bytes line : List ℕ) → IsRightText is_built texts name → IsNamed texts name source
+    → IsRead source bytes → IsRefusal is_built bytes line → ⊥
+not_refused is_built None name source bytes line right named read refusal = absurd right
+not_refused is_built (Some texts) name source bytes line right named read refusal = by (text_named texts name) right named
   where
-    by : (o : Option (List ℕ)) → IsSomeAnd o (λ bytes. (tree : List Statement) × IsTextOf bytes tree)
-        → IsSomeAnd told (λ t. o ≡ Some (t.read ++ t.left)) → ⊥
+    by : (o : Option (List ℕ)) → IsSomeAnd o (λ whole. (site : SiteData) × IsSiteOf whole site × (is_built site ≡ true))
+        → IsSomeAnd source.told (λ t. o ≡ Some (t.read ++ t.left)) → ⊥
     by None right named = absurd right
-    by (Some bytes) right named = compiled_source told bytes right.0 right.1 named wrong
+    by (Some whole) (site, is, built) named = source_not_refused is_built source.told whole bytes line site is built named read refusal
 
--- ---- a source that was handed out under a name, and read
-
-named_told : (told : Option Told) (new : Option Told) (bytes : List ℕ) (whole : List ℕ) → told ≡ Some (record { read = []; left = whole }) → Moves told new bytes
-    → IsSomeAnd new (λ t. Some whole ≡ Some (t.read ++ t.left))
-named_told told new bytes whole is moved = by new (subst (λ (o : Option Told). Moves o new bytes) is moved)
-  where
-    by : (new : Option Told) → Moves (Some (record { read = []; left = whole })) new bytes → IsSomeAnd new (λ t. Some whole ≡ Some (t.read ++ t.left))
-    by None moved = absurd moved
-    by (Some t) moved = ap (λ (l : List ℕ). Some l) (moved.0 ∙ ap (λ (l : List ℕ). l ++ t.left) (sym moved.1))
-
--- it still has the bytes under that name
-pub named_after : (texts : Texts) (name : List ℕ) (old : SourceData) (new : Option Told) (bytes : List ℕ) → ShowsText texts name old → Moves old.told new bytes
-    → IfSome texts (λ ts. IsSomeAnd new (λ t. text_named ts name ≡ Some (t.read ++ t.left)))
-named_after None name old new bytes shows moved = tt
-named_after (Some texts) name old new bytes shows moved = by (text_named texts name) shows
-  where
-    by : (o : Option (List ℕ)) → IsSomeAnd o (λ whole. old ≡ fresh_source whole) → IsSomeAnd new (λ t. o ≡ Some (t.read ++ t.left))
-    by None shows = absurd shows
-    by (Some whole) shows = named_told old.told new bytes whole (ap (λ (s : SourceData). s.told) shows) moved
-
--- the ends of asking under a text, of which two cannot be
+-- the ends of a command under a text, of which two cannot be
 pub complete_by_ends : (status : Status) → (((status ≡ Done) ⊎ (status ≡ StreamFault)) ⊎ (status ≡ NoMemory)) ⊎ (status ≡ Text)
     → (status ≡ Text → ⊥) → (status ≡ StreamFault → ⊥) → (status ≡ Done) ⊎ (status ≡ NoMemory)
 complete_by_ends status (inl (inl (inl done))) text stream = inl done

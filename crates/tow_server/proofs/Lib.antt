@@ -1,3 +1,2 @@
-pub mod Compiling
 pub mod Completing
 pub mod Numbers

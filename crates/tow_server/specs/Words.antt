@@ -5,7 +5,7 @@ use Rattle.std.specs.Char.{is_ascii_digit}
 use Rattle.tow_server.specs.declared.status.Why.{Why}
 use Rattle.tow_server.specs.declared.status.Why.TheVariants.{NoCommand, BadWords}
 use Rattle.tow_server.specs.declared.words.Words.{Words}
-use Rattle.tow_server.specs.declared.words.Words.TheVariants.{Ask, Usage}
+use Rattle.tow_server.specs.declared.words.Words.TheVariants.{Ask, Check, Usage}
 
 -- the last second that a date can show
 abbrev pub last_moment : ℕ
@@ -38,13 +38,20 @@ ask_of (dir ∷ text ∷ []) = Ask None
 ask_of (dir ∷ text ∷ flag ∷ n ∷ []) = if bytes_eq flag (codes "--moment") then at_moment (moment_of n) else Usage BadWords
 ask_of other = Usage BadWords
 
+-- TEXT
+abbrev pub check_of : List (List ℕ) → Words
+check_of (text ∷ []) = Check
+check_of other = Usage BadWords
+
 -- the words, the first of which names the command
 abbrev pub words_of : List (List ℕ) → Words
 words_of [] = Usage NoCommand
-words_of (first ∷ rest) = if bytes_eq first (codes "ask") then ask_of rest else Usage NoCommand
+words_of (first ∷ rest) =
+    if bytes_eq first (codes "ask") then ask_of rest else (if bytes_eq first (codes "check") then check_of rest else Usage NoCommand)
 
--- the third word, which names the text of `ask`
+-- the word that names the text: the second one of `check`, the third one of `ask`
 abbrev pub text_word : List (List ℕ) → List ℕ
+text_word (first ∷ text ∷ []) = text
 text_word (first ∷ dir ∷ text ∷ rest) = text
 text_word other = []
 

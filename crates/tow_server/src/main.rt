@@ -2,13 +2,19 @@
 #![tactic(auto)]
 
 mod asking;
+mod checking;
+mod lines;
+mod loading;
 mod printing;
+mod refusing;
 mod running;
 mod status;
 mod streams;
 mod system;
 #[cfg(test)]
 mod tests;
+#[cfg(test)]
+mod text_tests;
 mod words;
 
 use running::run;

@@ -11,7 +11,7 @@ use tow_link::{Joined, MemorySink, MemorySource};
 
 /// What a host has: the text `t`, the input, cut in two at a place, and the numbers of the calls that fail.
 #[derive(Clone, Copy)]
-struct Case<'a> {
+pub struct Case<'a> {
     text: &'a [u8],
     input: &'a [u8],
     cut: usize,
@@ -21,13 +21,14 @@ struct Case<'a> {
     failing_writes: &'a [u64],
 }
 
-const HI: &[u8] = b"path('/hi') -> response-code(204)";
+pub const HI: &[u8] = b"path('/hi') -> response-code(204)";
 
-const GET_HI: &[u8] = b"GET /hi HTTP/1.1\r\nHost: a\r\n\r\n";
+pub const GET_HI: &[u8] = b"GET /hi HTTP/1.1\r\nHost: a\r\n\r\n";
 
-const HI_ANSWER: &[u8] = b"HTTP/1.1 204 No Content\r\ndate: Thu, 01 Jan 1970 00:00:00 GMT\r\n\r\n";
+pub const HI_ANSWER: &[u8] =
+    b"HTTP/1.1 204 No Content\r\ndate: Thu, 01 Jan 1970 00:00:00 GMT\r\n\r\n";
 
-const NOT_FOUND: &[u8] =
+pub const NOT_FOUND: &[u8] =
     b"HTTP/1.1 404 Not Found\r\ncontent-length: 0\r\ndate: Thu, 01 Jan 1970 00:00:00 GMT\r\n\r\n";
 
 const BAD: &[u8] =
@@ -39,9 +40,11 @@ const NOT_BUILT: &[u8] =
 const USAGE: &[u8] =
     b"usage: check TEXT | ask DIR TEXT [--moment N] | drill N | serve DIR TEXT ADDRESS [--loops N] [--workers N] [--slots N] [--connections N]\n";
 
-const ASK: [&str; 5] = ["ask", "d", "t", "--moment", "0"];
+pub const ASK: [&str; 5] = ["ask", "d", "t", "--moment", "0"];
 
-fn plain<'a>(text: &'a [u8], input: &'a [u8]) -> Case<'a> {
+pub const CHECK: [&str; 2] = ["check", "t"];
+
+pub fn plain<'a>(text: &'a [u8], input: &'a [u8]) -> Case<'a> {
     Case {
         text,
         input,
@@ -89,7 +92,11 @@ fn host_of(alloc: Global, case: &Case) -> Result<MemoryHost, AllocError>
 }
 
 /// The status of these words over such a host, and what was written.
-fn answered(alloc: Global, case: &Case, words: &[&str]) -> Result<(Status, Vec<u8>), AllocError> {
+pub fn answered(
+    alloc: Global,
+    case: &Case,
+    words: &[&str],
+) -> Result<(Status, Vec<u8>), AllocError> {
     let mut owned = Vec::new(alloc);
     for word in words {
         owned.push(String::from_str(alloc, word)?)?;
@@ -101,14 +108,6 @@ fn answered(alloc: Global, case: &Case, words: &[&str]) -> Result<(Status, Vec<u
         None => Vec::new(alloc),
     };
     Ok((status, written))
-}
-
-fn line_ends(alloc: Global, count: usize) -> Result<Vec<u8>, AllocError> {
-    let mut bytes = Vec::new(alloc);
-    for _byte in 0..count {
-        bytes.push(b'\n')?;
-    }
-    Ok(bytes)
 }
 
 #[test]
@@ -202,7 +201,7 @@ fn words_are_read(rt: HostRuntime) -> Result<(), Fail> {
     let alloc = rt.alloc();
     let rows: [(&[&str], Why); 8] = [
         (&[], Why::NoCommand),
-        (&["check", "t"], Why::NoCommand),
+        (&["serve", "d", "t", "127.0.0.1:80"], Why::NoCommand),
         (&["ask", "d"], Why::BadWords),
         (&["ask", "d", "t", "--moment"], Why::BadWords),
         (&["ask", "d", "t", "--moment", ""], Why::BadWords),
@@ -234,28 +233,6 @@ fn words_are_read(rt: HostRuntime) -> Result<(), Fail> {
         written.as_slice(),
         b"HTTP/1.1 204 No Content\r\ndate: Thu, 01 Jan 1970 00:00:07 GMT\r\n\r\n".as_slice()
     );
-    Ok(())
-}
-
-#[test]
-fn texts_that_are_not_built_are_refused(rt: HostRuntime) -> Result<(), Fail> {
-    let alloc = rt.alloc();
-    let long = line_ends(alloc, 65_537)?;
-    let rows: [&[u8]; 4] = [
-        b"restart",
-        b"path(\"/hi\") -> response-code(204)",
-        b"path('/\xFF') -> response-code(204)",
-        long.as_slice(),
-    ];
-    for text in rows {
-        let (status, written) = answered(alloc, &plain(text, GET_HI), &ASK)?;
-        assert_eq!(rt; status, Status::Text);
-        assert_eq!(rt; written.as_slice(), b"1:1: Unbuilt\n".as_slice());
-    }
-    let full = line_ends(alloc, 65_536)?;
-    let (status, written) = answered(alloc, &plain(full.as_slice(), GET_HI), &ASK)?;
-    assert_eq!(rt; status, Status::Done);
-    assert_eq!(rt; written.as_slice(), NOT_FOUND);
     Ok(())
 }
 
@@ -323,10 +300,40 @@ fn faults_have_their_statuses(rt: HostRuntime) -> Result<(), Fail> {
     assert_eq!(rt; written.as_slice(), b"".as_slice());
     let silent = Case {
         failing_writes: &[0],
-        ..plain(b"restart", b"")
+        ..plain(b"else", b"")
     };
-    let (status, written) = answered(alloc, &silent, &ASK)?;
-    assert_eq!(rt; status, Status::Text);
-    assert_eq!(rt; written.as_slice(), b"".as_slice());
+    for words in [&ASK[..], &CHECK[..]] {
+        let (status, written) = answered(alloc, &silent, words)?;
+        assert_eq!(rt; status, Status::Text);
+        assert_eq!(rt; written.as_slice(), b"".as_slice());
+    }
+    let checks: [(Case, Status); 3] = [
+        (
+            Case {
+                failing_texts: &[0],
+                ..good
+            },
+            Status::HostFault,
+        ),
+        (
+            Case {
+                failing_text_reads: &[1],
+                ..good
+            },
+            Status::HostFault,
+        ),
+        (
+            Case {
+                failing_writes: &[0],
+                ..good
+            },
+            Status::StreamFault,
+        ),
+    ];
+    for (case, want) in checks {
+        let (status, written) = answered(alloc, &case, &CHECK)?;
+        assert_eq!(rt; status, want);
+        assert_eq!(rt; written.as_slice(), b"".as_slice());
+    }
     Ok(())
 }

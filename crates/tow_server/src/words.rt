@@ -1,8 +1,8 @@
-ghost use Rattle.std.specs.Prelude.{◌≡◌, ◌≤◌, ◌<◌, ◌-◌, ℕ, Some, Option, length, map, string_bytes, IsTrue};
+ghost use Rattle.std.specs.Prelude.{◌≡◌, ◌≢◌, ◌≤◌, ◌<◌, ◌-◌, ℕ, Some, Option, length, map, string_bytes, IsTrue};
 ghost use Rattle.std.specs.Option.{ForSome};
 ghost use Rattle.std.specs.Char.{is_ascii_digit};
 ghost use Rattle.std.specs.List.{list_all};
-ghost use Rattle.tow_server.specs.Words.{ask_of, at_moment, moment_of, second_of, words_of};
+ghost use Rattle.tow_server.specs.Words.{ask_of, at_moment, check_of, moment_of, second_of, words_of};
 
 use crate::status::Why;
 
@@ -14,6 +14,8 @@ const LAST_MOMENT: u64 = 253_402_300_799;
 pub enum Words {
     /// `ask`, with the directory and the text as the second and the third word, at this second since 1970 or at the clock's.
     Ask(Option<u64>),
+    /// `check`, with the text as the second word.
+    Check,
     /// No command.
     Usage(Why),
 }
@@ -22,6 +24,7 @@ pub enum Words {
 pub fn read_words(words: &[String]) -> Words
     ensures words { result ≡ words_of (map string_bytes words.now) }
     ensures long { (moment : Option ℕ) → result ≡ Words.Ask moment → 3 ≤ length words.now }
+    ensures two { result ≡ Words.Check → length words.now ≡ 2 }
     ensures small { (moment : ℕ) → result ≡ Words.Ask (Some moment) → moment < 253402300800 }
 {
     match words {
@@ -29,6 +32,8 @@ pub fn read_words(words: &[String]) -> Words
         [first, rest @ ..] => {
             if first.as_str() == "ask" {
                 read_ask(rest)
+            } else if first.as_str() == "check" {
+                read_check(rest)
             } else {
                 Words::Usage(Why::NoCommand)
             }
@@ -36,8 +41,20 @@ pub fn read_words(words: &[String]) -> Words
     }
 }
 
+fn read_check(rest: &[String]) -> Words
+    ensures words { result ≡ check_of (map string_bytes rest.now) }
+    ensures one { result ≡ Words.Check → length rest.now ≡ 1 }
+    ensures no_ask { (moment : Option ℕ) → result ≢ Words.Ask moment }
+{
+    match rest {
+        [_text] => Words::Check,
+        _ => Words::Usage(Why::BadWords),
+    }
+}
+
 fn read_ask(rest: &[String]) -> Words
     ensures words { result ≡ ask_of (map string_bytes rest.now) }
+    ensures no_check { result ≢ Words.Check }
     ensures long { (moment : Option ℕ) → result ≡ Words.Ask moment → 2 ≤ length rest.now }
     ensures small { (moment : ℕ) → result ≡ Words.Ask (Some moment) → moment < 253402300800 }
 {
@@ -57,6 +74,7 @@ fn read_ask(rest: &[String]) -> Words
 fn ask_at(moment: Option<u64>) -> Words
     requires { ForSome moment (λ second. second < 253402300800) }
     ensures words { result ≡ at_moment moment }
+    ensures no_check { result ≢ Words.Check }
     ensures small { (second : ℕ) → result ≡ Words.Ask (Some second) → second < 253402300800 }
 {
     match moment {

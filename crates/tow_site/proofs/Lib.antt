@@ -3,3 +3,5 @@ pub mod Holding
 pub mod Walking
 pub mod Leading
 pub mod Deciding
+pub mod Naming
+pub mod Sites

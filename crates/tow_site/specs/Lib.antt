@@ -1,3 +1,4 @@
 pub mod Built
+pub mod Compiled
 pub mod Decided
 pub mod Walking

@@ -1,16 +1,26 @@
-//! A site: what a handlers text makes of a request. So far the walk over its tree with the tests `true`, `false` and
-//! `path` and the actions that answer, begin again or go to the default handler, and the default handler over an empty
-//! folder.
+//! A site: a handlers text that compiles, and what it makes of a request. `compile` gives the site or the text's first
+//! fault. So far `outcome` walks a tree with the tests `true`, `false` and `path` and the actions that answer, begin again
+//! or go to the default handler, and the default handler is that over an empty folder.
 #![tactic(auto)]
 
 mod answer;
 mod built;
+#[cfg(test)]
+mod compile_tests;
+mod compiling;
 mod default;
+mod fault;
 mod holds;
 mod outcomes;
+mod places;
+mod refusing;
+mod site;
 #[cfg(test)]
 mod tests;
 mod walk;
 
 pub use built::is_built;
+pub use compiling::compile;
+pub use fault::Fault;
 pub use outcomes::outcome;
+pub use site::Site;

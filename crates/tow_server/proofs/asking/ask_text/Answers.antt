@@ -1,5 +1,8 @@
-use Rattle.std.proofs.Common.{◌≡◌, ◌∙◌, ap, Err}
+use Rattle.std.proofs.Common.{inl, subst}
+use Rattle.tow_server.specs.Lines.{IsFaultLine}
 use Rattle.tow_server.proofs.asking.ask_text.Goals as goal
 
-pub returns-in-Err-Unbuilt-clause-unbuilt : goal.returns-in-Err-Unbuilt-clause-unbuilt
-returns-in-Err-Unbuilt-clause-unbuilt g c = λ same. c.read_text.ensures.unbuilt (c.in-Err-Unbuilt.is ∙ ap (λ fault. Err fault) c.in-Err-Unbuilt.field-0-is)
+pub returns-clause-refused : goal.returns-clause-refused
+returns-clause-refused g c = λ is.
+    let printed = c.refuse_fault.ensures.prints is in
+    (printed.0, inl (subst (λ bytes. IsFaultLine bytes printed.0) c.as_slice-in-Err.ensures.value printed.1), printed.2)

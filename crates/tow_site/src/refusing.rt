@@ -1,0 +1,47 @@
+ghost use Rattle.std.specs.Prelude.{◌≤◌, length, IfSome};
+ghost use Rattle.tow_model.specs.Fault.{IsFault};
+ghost use Rattle.tow_model.specs.Tokens.{IsTokenFault};
+ghost use Rattle.tow_lex.specs.Faults.{lex_fault};
+ghost use Rattle.tow_parse.specs.Faults.{parse_fault};
+ghost use Rattle.tow_site.specs.Compiled.{IsFaultOf};
+
+use crate::fault::Fault;
+use crate::places::fault_at;
+use tow_lex::LexFault;
+use tow_model::Kind;
+use tow_parse::ParseFault;
+
+/// The offset at which a text is too long.
+const MOST_BYTES: usize = 65_536;
+
+/// The fault of a text that has no tokens.
+pub fn fault_of_tokens(text: &[u8], fault: LexFault) -> Fault
+    requires { IfSome (lex_fault fault) (λ f. IsTokenFault text.now f.kind f.place) }
+    ensures { IsFaultOf text.now result }
+{
+    match fault {
+        LexFault::UnclosedQuote(place) => fault_at(text, Kind::UnclosedQuote, place),
+        LexFault::UnclosedBrace(place) => fault_at(text, Kind::UnclosedBrace, place),
+        LexFault::StrayByte(place) => fault_at(text, Kind::StrayByte, place),
+        LexFault::TooLong => fault_at(text, Kind::TooLong, MOST_BYTES),
+        LexFault::NoMemory => Fault::NoMemory,
+    }
+}
+
+/// The fault of a text whose tokens have no tree.
+pub fn fault_of_tree(text: &[u8], fault: ParseFault) -> Fault
+    requires short { length text.now ≤ 65536 }
+    requires fault { IfSome (parse_fault fault) (λ f. IsFault text.now f.kind f.place) }
+    ensures { IsFaultOf text.now result }
+{
+    match fault {
+        ParseFault::Unexpected(place) => fault_at(text, Kind::Unexpected, place),
+        ParseFault::TooDeep(place) => fault_at(text, Kind::TooDeep, place),
+        ParseFault::UnknownName(place) => fault_at(text, Kind::UnknownName, place),
+        ParseFault::BadParameter(place) => fault_at(text, Kind::BadParameter, place),
+        ParseFault::BadAttribute(place) => fault_at(text, Kind::BadAttribute, place),
+        ParseFault::BadTarget(place) => fault_at(text, Kind::BadTarget, place),
+        ParseFault::TooManyLimits(place) => fault_at(text, Kind::TooManyLimits, place),
+        ParseFault::NoMemory => Fault::NoMemory,
+    }
+}
