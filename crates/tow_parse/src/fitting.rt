@@ -17,8 +17,6 @@ mod paths;
 mod segments;
 mod table;
 mod templates;
-#[cfg(test)]
-mod tests;
 mod texts;
 mod unnamed;
 mod values;

@@ -30,8 +30,6 @@ mod reader;
 mod state;
 mod statements;
 mod step;
-#[cfg(test)]
-mod tests;
 mod written;
 
 pub use fault::ParseFault;

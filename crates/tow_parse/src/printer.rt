@@ -12,8 +12,6 @@ mod spelling;
 mod statements;
 mod style;
 mod templates;
-#[cfg(test)]
-mod tests;
 mod tests_of;
 mod texts;
 

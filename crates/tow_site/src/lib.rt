@@ -13,6 +13,8 @@ mod fault;
 mod holds;
 mod outcomes;
 mod places;
+#[cfg(test)]
+mod printing_tests;
 mod refusing;
 mod site;
 #[cfg(test)]
