@@ -7,7 +7,7 @@ use Rattle.httpdate.specs.Valid.{IsValid}
 use Rattle.httpdate.specs.Text.{imf_fixdate, day_name, month_name}
 use Rattle.httpdate.proofs.Theorems.{unix_secs_injective}
 use Rattle.tow_model.specs.Dates.{IsAt, IsDate, parts_at, parts_of, log_day, log_date_of}
-use Rattle.tow_model.proofs.DateProofs.{parts_are}
+use Rattle.tow_model.proofs.DateProofs.{one_moment, parts_are}
 
 -- the log's bytes, picked from those of the date field
 abbrev pub picked : List ℕ → List ℕ
@@ -58,11 +58,6 @@ picked_log p valid =
     let d = three (day_name p.wday) (day_three p.wday week.0 week.1) in
     let m = three (month_name p.mon) (month_three p.mon valid.0.1.0 valid.0.1.1) in
     rw (d.3, m.3) refl
-
-one_moment : (second : ℕ) (p q : Parts) → IsAt second p → IsAt second q → p ≡ q
-one_moment second p q a b =
-    unix_secs_injective (record { parts = p; civil = a.valid.0; time = a.valid.1; right_day = a.valid.2 })
-    (record { parts = q; civil = b.valid.0; time = b.valid.1; right_day = b.valid.2 }) (a.at ∙ sym b.at)
 
 parts_there : (second : ℕ) → second < 253402300800 → IsAt second (parts_at second)
 parts_there second small =

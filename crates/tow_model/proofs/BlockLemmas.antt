@@ -1,11 +1,6 @@
 -- Blocks are the bytes in pieces, the last one shorter.
-use Rattle.std.proofs.Common.{◌≡◌, ℕ, zero, suc, ◌+◌, ◌-◌, ◌*◌, ◌/◌, ◌<◌, ◌≤◌, Bool, true, false, ◌==◌, if◌then◌else◌, List, [], ◌∷◌, ◌++◌, length, map, take, drop, flat_map, refl, sym, ap, ap₂, ◌∙◌, subst, arith, append_assoc, length-append, length-take, length-drop, take_at, take-append-drop, take_all, drop_of_length-le, ◌⊎◌, inl, inr, lit<}
-use Rattle.std.proofs.lemmas.List.{append-nil, drop_at}
-use Rattle.std.proofs.lemmas.Bool.Decides.{nat_tests}
-use Rattle.std.proofs.Math.Seq.{take-append-add}
-use Rattle.std.specs.Fmt.{digits}
-use Rattle.httparse.specs.Ascii.{crlf_bytes}
-use Rattle.tow_model.specs.Answers.{block_size, cut, blocks, chunk_text, last_chunk, chunked, ArePieces, BlocksAre}
+use Rattle.std.proofs.Common.{◌≡◌, ℕ, zero, suc, ◌<◌, ◌≤◌, List, [], ◌∷◌, ◌++◌, length, take, drop, refl, sym, ap, ap₂, ◌∙◌, subst, arith, length-take, length-drop, take-append-drop, take_all, drop_of_length-le, ◌⊎◌, inl, inr, lit<}
+use Rattle.tow_model.specs.Answers.{block_size, cut, ArePieces, BlocksAre}
 
 -- more pieces than there are bytes change nothing
 take_length : (a : List ℕ) (n : ℕ) → n ≤ length a → length (take n a) ≡ n

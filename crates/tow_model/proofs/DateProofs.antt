@@ -109,7 +109,7 @@ parts_are day time small short =
     omega (arith, y.low, y.high, year_length (last_up_to days_of_years day 8029)) in
     assemble day time _ _ short y (months _ _ in_year)
 
-one_moment : (second : ℕ) (p q : Parts) → IsAt second p → IsAt second q → p ≡ q
+pub one_moment : (second : ℕ) (p q : Parts) → IsAt second p → IsAt second q → p ≡ q
 one_moment second p q a b =
     unix_secs_injective (record { parts = p; civil = a.valid.0; time = a.valid.1; right_day = a.valid.2 })
     (record { parts = q; civil = b.valid.0; time = b.valid.1; right_day = b.valid.2 }) (a.at ∙ sym b.at)

@@ -19,7 +19,6 @@ use Rattle.tow_model.specs.declared.page.Page.TheVariants as page
 use Rattle.tow_model.specs.Texts.{Text}
 use Rattle.tow_model.specs.Fields.{field}
 use Rattle.tow_model.specs.Paths.{resolved, place_of, template_bindings}
-use Rattle.tow_model.specs.Dates.{date_of, log_date_of}
 use Rattle.tow_model.specs.Values.{value_of, line_of}
 use Rattle.tow_model.specs.Predicates.{prefix_bindings}
 use Rattle.tow_model.specs.Steps.{start}

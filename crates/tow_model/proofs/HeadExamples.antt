@@ -8,7 +8,7 @@ use Rattle.percent_encoding.specs.Percent.{percent_decode}
 use Rattle.tow_model.specs.declared.request.Framing.{Framing}
 use Rattle.tow_model.specs.declared.request.Framing.TheVariants.{Fixed, Chunked}
 use Rattle.tow_model.specs.declared.request.Request.{Request}
-use Rattle.tow_model.specs.Heads.{refusal, request_of}
+use Rattle.tow_model.specs.Heads.{refusal, connection_refusal, request_of}
 use Rattle.tow_model.specs.FirstHead.{read_then, read_many, read_newline, span_of, head_of, first_head}
 
 -- CR LF behind some bytes
@@ -20,6 +20,9 @@ host_line = line (codes "Host: a")
 
 abbrev refusal_in : List ℕ → Option (Option ℕ)
 refusal_in input = option_map (λ x. refusal x.0) (first_head input)
+
+abbrev answered_in : List ℕ → Option (Option ℕ)
+answered_in input = option_map (λ x. connection_refusal x.0) (first_head input)
 
 abbrev request_in : List ℕ → Option Request
 request_in input = option_map (λ x. request_of 2130706433 x.0) (first_head input)
@@ -56,14 +59,42 @@ two_hosts : refusal_in (line (codes "GET /hi HTTP/1.0") ++ host_line ++ host_lin
 unfolding httparse_on_literals read_then read_many read_newline span_of head_of is_utf8 chars encode
 two_hosts = refl
 
--- what is not built yet
-old_version : refusal_in (line (codes "GET /hi HTTP/1.0") ++ line []) ≡ Some (Some 501)
+-- what a connection does not serve yet
+old_version : refusal_in (line (codes "GET /hi HTTP/1.0") ++ line []) ≡ Some None
 unfolding httparse_on_literals read_then read_many read_newline span_of head_of is_utf8 chars encode
 old_version = refl
 
-two_lengths : refusal_in (line (codes "POST /e HTTP/1.1") ++ host_line ++ line (codes "Content-Length: 3") ++ line (codes "Transfer-Encoding: chunked") ++ line []) ≡ Some (Some 501)
+old_version_yet : answered_in (line (codes "GET /hi HTTP/1.0") ++ line []) ≡ Some (Some 501)
+unfolding httparse_on_literals read_then read_many read_newline span_of head_of is_utf8 chars encode
+old_version_yet = refl
+
+two_lengths : refusal_in (line (codes "POST /e HTTP/1.1") ++ host_line ++ line (codes "Content-Length: 3") ++ line (codes "Transfer-Encoding: chunked") ++ line []) ≡ Some (Some 400)
 unfolding httparse_on_literals read_then read_many read_newline span_of head_of is_utf8 chars encode
 two_lengths = refl
+
+no_length : refusal_in (line (codes "POST /e HTTP/1.1") ++ host_line ++ line (codes "Content-Length: +3") ++ line []) ≡ Some (Some 400)
+unfolding httparse_on_literals read_then read_many read_newline span_of head_of is_utf8 chars encode
+no_length = refl
+
+coded : refusal_in (line (codes "POST /e HTTP/1.1") ++ host_line ++ line (codes "Transfer-Encoding: gzip, chunked") ++ line []) ≡ Some (Some 501)
+unfolding httparse_on_literals read_then read_many read_newline span_of head_of is_utf8 chars encode
+coded = refl
+
+not_chunked : refusal_in (line (codes "POST /e HTTP/1.1") ++ host_line ++ line (codes "Transfer-Encoding: chunked") ++ line (codes "Transfer-Encoding: gzip") ++ line []) ≡ Some (Some 400)
+unfolding httparse_on_literals read_then read_many read_newline span_of head_of is_utf8 chars encode
+not_chunked = refl
+
+no_coding : refusal_in (line (codes "POST /e HTTP/1.1") ++ host_line ++ line (codes "Transfer-Encoding: ,") ++ line []) ≡ Some (Some 400)
+unfolding httparse_on_literals read_then read_many read_newline span_of head_of is_utf8 chars encode
+no_coding = refl
+
+old_coding : refusal_in (line (codes "POST /e HTTP/1.0") ++ line (codes "Transfer-Encoding: chunked") ++ line []) ≡ Some (Some 400)
+unfolding httparse_on_literals read_then read_many read_newline span_of head_of is_utf8 chars encode
+old_coding = refl
+
+no_content : answered_in (line (codes "GET /hi HTTP/1.1") ++ host_line ++ line (codes "Content-Length: 0") ++ line []) ≡ Some (Some 501)
+unfolding httparse_on_literals read_then read_many read_newline span_of head_of is_utf8 chars encode
+no_content = refl
 
 chunked_framing : option_map (λ q. q.framing) (request_in (line (codes "POST /e HTTP/1.1") ++ host_line ++ line (codes "Transfer-Encoding: chunked") ++ line [])) ≡ Some Chunked
 unfolding httparse_on_literals read_then read_many read_newline span_of head_of is_utf8 chars encode
@@ -95,14 +126,6 @@ wrong_target : refusal_in (line (codes "GET a HTTP/1.1") ++ host_line ++ line []
 unfolding httparse_on_literals read_then read_many read_newline span_of head_of is_utf8 chars encode
 wrong_target = refl
 
-later_target : refusal_in (line (codes "GET /a?b HTTP/1.1") ++ host_line ++ line []) ≡ Some (Some 501)
+served_target : answered_in (line (codes "GET /a/../b?c HTTP/1.1") ++ host_line ++ line []) ≡ Some None
 unfolding httparse_on_literals read_then read_many read_newline span_of head_of is_utf8 chars encode
-later_target = refl
-
-dotted_target : refusal_in (line (codes "GET /a/../b HTTP/1.1") ++ host_line ++ line []) ≡ Some (Some 501)
-unfolding httparse_on_literals read_then read_many read_newline span_of head_of is_utf8 chars encode
-dotted_target = refl
-
-three_dots : refusal_in (line (codes "GET /a/.../b HTTP/1.1") ++ host_line ++ line []) ≡ Some None
-unfolding httparse_on_literals read_then read_many read_newline span_of head_of is_utf8 chars encode
-three_dots = refl
+served_target = refl

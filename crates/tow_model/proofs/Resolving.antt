@@ -23,11 +23,11 @@ Smooth s = has_slash s ≡ false
 abbrev pub Plain : Text → Type 0
 Plain s = (is_dot s || is_dots s) ≡ false
 
-each_append : (P : Text → Type 0) (a b : List Text) → Each P a → Each P b → Each P (a ++ b)
+pub each_append : (P : Text → Type 0) (a b : List Text) → Each P a → Each P b → Each P (a ++ b)
 each_append P [] b p q = q
 each_append P (s ∷ a) b p q = (p.0, each_append P a b p.1 q)
 
-each_take : (P : Text → Type 0) (n : ℕ) (a : List Text) → Each P a → Each P (take n a)
+pub each_take : (P : Text → Type 0) (n : ℕ) (a : List Text) → Each P a → Each P (take n a)
 each_take P zero [] p = tt
 each_take P zero (s ∷ a) p = tt
 each_take P (suc n) [] p = tt
@@ -36,7 +36,7 @@ each_take P (suc n) (s ∷ a) p = (p.0, each_take P n a p.1)
 -- CUT AND JOIN
 
 -- a byte stands before the pieces of a cut text, and ends the first piece or belongs to it
-abbrev add_byte : Bool → ℕ → List Text → List Text
+abbrev pub add_byte : Bool → ℕ → List Text → List Text
 add_byte x b pieces = cond x ([] ∷ pieces) (onto_first b pieces)
 
 piece_smooth : (x : Bool) (b : ℕ) (pieces : List Text) → (b == slash) ≡ x → Each Smooth pieces → Each Smooth (add_byte x b pieces)
@@ -44,7 +44,7 @@ piece_smooth true b pieces is p = (refl, p)
 piece_smooth false b [] is p = (rw is refl, tt)
 piece_smooth false b (s ∷ pieces) is p = (rw (is, p.0) refl, p.1)
 
-cut_smooth : (t : Text) → Each Smooth (cut_at slash t)
+pub cut_smooth : (t : Text) → Each Smooth (cut_at slash t)
 cut_smooth [] = (refl, tt)
 cut_smooth (b ∷ t) = piece_smooth (b == slash) b (cut_at slash t) refl (cut_smooth t)
 

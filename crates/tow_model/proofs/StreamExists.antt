@@ -6,7 +6,7 @@ use Rattle.tow_model.specs.declared.request.Framing.{Framing}
 use Rattle.tow_model.specs.declared.request.Framing.TheVariants.{Empty, Fixed, Chunked}
 use Rattle.tow_model.specs.declared.content.Content.{Content}
 use Rattle.tow_model.specs.declared.content.Content.TheVariants.{Whole, Bad, TooLong}
-use Rattle.tow_model.specs.Heads.{HasHead, refusal, request_of}
+use Rattle.tow_model.specs.Heads.{HasHead, connection_refusal, request_of}
 use Rattle.tow_model.specs.FirstHead.{Got, first_head}
 use Rattle.tow_model.specs.Contents.{IsContent, HasContent, Gives}
 use Rattle.tow_model.specs.Stream.{Stream, nothing, refused, last, next, HasRequest, Reads, StreamIsThere}
@@ -94,7 +94,7 @@ some_is_none o x a b = absurd (cc)
 
 with_request : (peer n : ℕ) (input : List ℕ) (h : RequestHead) (rest : List ℕ) → HasHead input h rest → length input ≤ suc n
     → ((after : List ℕ) → length after ≤ n → ((s : Stream) → ¬ (Reads peer after s)) → ⊥)
-    → (o : Option ℕ) → refusal h ≡ o → ((s : Stream) → ¬ (Reads peer input s)) → ⊥
+    → (o : Option ℕ) → connection_refusal h ≡ o → ((s : Stream) → ¬ (Reads peer input s)) → ⊥
 with_request peer n input h rest has fits later (Some status) is none =
     none (refused status) (inl (record { head = h; rest = rest; reads = has; refused = is }))
 with_request peer n input h rest has fits later None is none =
@@ -133,7 +133,7 @@ up_to peer zero input fits none =
 up_to peer (suc n) input fits none =
     by_first peer input (first_head input) refl
     (λ x is. with_request peer n input x.0 x.1 ((finds_head input x.0 x.1).1 is) fits
-    (λ after short. up_to peer n after short) (refusal x.0) refl none) none
+    (λ after short. up_to peer n after short) (connection_refusal x.0) refl none) none
 
 pub stream_is_there : (peer : ℕ) (input : List ℕ) → StreamIsThere peer input
 stream_is_there peer input none = up_to peer (length input) input (omega arith) none

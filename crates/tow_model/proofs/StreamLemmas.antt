@@ -9,7 +9,7 @@ use Rattle.tow_model.specs.declared.request.Framing.{Framing}
 use Rattle.tow_model.specs.declared.request.Request.{Request}
 use Rattle.tow_model.specs.declared.content.Content.{Content}
 use Rattle.tow_model.specs.declared.content.Content.TheVariants.{Whole, Bad, TooLong}
-use Rattle.tow_model.specs.Heads.{HasHead, refusal, request_of}
+use Rattle.tow_model.specs.Heads.{HasHead, connection_refusal, request_of}
 use Rattle.tow_model.specs.Contents.{HasContent, IsShort, IsBad, Gives}
 use Rattle.tow_model.specs.Stream.{Stream, nothing, refused, last, next, IsBlank, IsNoRequest, IsRefused, HasRequest, IsWhole, Reads, StreamIsOne}
 use Rattle.tow_model.proofs.FirstHeads.{head_is_one}
@@ -139,7 +139,7 @@ pub refused_is_none : (peer : ℕ) (input : List ℕ) (status : ℕ) (q : Reques
     → IsRefused input status ⊎ (IsNoRequest input × (status ≡ 400)) → HasRequest peer input q rest → ⊥
 refused_is_none peer input status q rest (inl wrong) has =
     let same = head_is_one input wrong.head has.head _ _ wrong.reads has.reads in
-    refused_has_none status (refusal has.head) (sym (ap refusal same.0) ∙ wrong.refused) has.served
+    refused_has_none status (connection_refusal has.head) (sym (ap connection_refusal same.0) ∙ wrong.refused) has.served
 refused_is_none peer input status q rest (inr wrong) has = wrong.0.no_head has.head rest has.reads
 
 blank_is_not_refused : (input : List ℕ) (status : ℕ) → IsBlank input → IsRefused input status ⊎ (IsNoRequest input × (status ≡ 400)) → ⊥
@@ -149,7 +149,7 @@ blank_is_not_refused input status blank (inr wrong) = wrong.0.not_blank blank
 one_status : (input : List ℕ) (a b : ℕ) → IsRefused input a ⊎ (IsNoRequest input × (a ≡ 400)) → IsRefused input b ⊎ (IsNoRequest input × (b ≡ 400)) → a ≡ b
 one_status input a b (inl x) (inl y) =
     let same = head_is_one input x.head y.head _ _ x.reads y.reads in
-    same_Some a b (sym x.refused ∙ ap refusal same.0 ∙ y.refused)
+    same_Some a b (sym x.refused ∙ ap connection_refusal same.0 ∙ y.refused)
 one_status input a b (inl x) (inr y) = absurd (y.0.no_head x.head x.rest x.reads)
 one_status input a b (inr x) (inl y) = absurd (x.0.no_head y.head y.rest y.reads)
 one_status input a b (inr x) (inr y) = x.1 ∙ sym y.1

@@ -1,5 +1,5 @@
 -- Fields of a head, and bindings of a context.
-use Rattle.std.specs.Prelude.{ℕ, Bool, not, ◌==◌, List, [], ◌∷◌, ◌++◌, map, filter, find, flat_map, nat_lt, length, Option, option_map}
+use Rattle.std.specs.Prelude.{Bool, not, List, [], ◌∷◌, ◌++◌, map, filter, find, flat_map, nat_lt, length, Option, option_map}
 use Rattle.std.specs.Str.{bytes_eq, str_eq_ignore_ascii_case}
 use Rattle.tow_model.specs.declared.request.Field.{Field}
 use Rattle.http_header.specs.Token.{lowercase}

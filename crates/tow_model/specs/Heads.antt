@@ -1,7 +1,8 @@
 -- Which bytes are the head of a request, which heads are refused, and which request a head is.
 use Rattle.std.specs.Prelude.{◌≡◌, ℕ, ◌+◌, ◌≤◌, ◌^◌, min, Bool, true, false, not, ◌&&◌, ◌||◌, ◌==◌, nat_lt, List, [], ◌∷◌, length, map, codes, Option, Some, None, is_none, unwrap_or, bytes_eq, if◌then◌else◌}
-use Rattle.std.specs.List.{list_any}
-use Rattle.std.specs.Str.{byte}
+use Rattle.std.specs.List.{list_any, list_all, last_or}
+use Rattle.std.specs.Option.{option_map_or}
+use Rattle.std.specs.Char.{is_ascii_digit}
 use Rattle.std.specs.Str.Parse.{digits_value}
 use Rattle.httparse.specs.Grammar.{RequestHead, ReadsRequest, field_value}
 use Rattle.http_header.specs.Token.{lowercase}
@@ -11,9 +12,9 @@ use Rattle.tow_model.specs.declared.request.Version.TheVariants.{V10, V11}
 use Rattle.tow_model.specs.declared.request.Framing.{Framing}
 use Rattle.tow_model.specs.declared.request.Framing.TheVariants.{Empty, Fixed, Chunked}
 use Rattle.tow_model.specs.declared.request.Request.{Request}
-use Rattle.tow_model.specs.Texts.{Text, begins_with, cut_at}
+use Rattle.tow_model.specs.Texts.{Text, is_empty}
 use Rattle.tow_model.specs.Fields.{field, values_of, has, elements}
-use Rattle.tow_model.specs.Paths.{Place, place_of, slash, is_dot, is_dots}
+use Rattle.tow_model.specs.Paths.{Place, place_of}
 
 -- The input begins with the head h of httparse's grammar (RFC 9112, section 2.1), within the server's bounds, and rest follows.
 pub record HasHead (input : List ℕ) (h : RequestHead) (rest : List ℕ) : Type 0 where
@@ -41,29 +42,44 @@ has_wrong_host h =
 abbrev pub has_wrong_target : RequestHead → Bool
 has_wrong_target h = is_none (place_of h.method h.target)
 
+-- one or more digits
+abbrev pub is_number : Text → Bool
+is_number value = not (is_empty value) && list_all is_ascii_digit value
+
+abbrev pub is_no_length : List Text → Bool
+is_no_length [] = false
+is_no_length (value ∷ []) = not (is_number value)
+is_no_length (value ∷ other ∷ values) = true
+
+-- Content-Length stands twice, is no number, or stands with Transfer-Encoding (RFC 9112, section 6.3)
+abbrev pub has_wrong_length : List Field → Bool
+has_wrong_length fields =
+    is_no_length (values_of (codes "content-length") fields)
+    || (has (codes "content-length") fields && has (codes "transfer-encoding") fields)
+
+-- the codings of all lines (RFC 9112, section 6.1)
+abbrev pub codings_of : List Field → List Text
+codings_of fields = elements (values_of (codes "transfer-encoding") fields)
+
+abbrev pub ends_in_chunked : List Text → Bool
+ends_in_chunked codings = option_map_or (bytes_eq (codes "chunked")) (last_or None codings) false
+
+-- Transfer-Encoding stands in HTTP/1.0, or its last coding is not `chunked` (RFC 9112, sections 6.1 and 6.3)
+abbrev pub has_wrong_coding : RequestHead → Bool
+has_wrong_coding h =
+    has (codes "transfer-encoding") (fields_of h) && (h.minor == 0 || not (ends_in_chunked (codings_of (fields_of h))))
+
 -- the head is no request that HTTP allows here
 abbrev pub is_wrong : RequestHead → Bool
-is_wrong h = has_wrong_host h || has_wrong_target h
+is_wrong h = has_wrong_host h || has_wrong_target h || has_wrong_length (fields_of h) || has_wrong_coding h
 
--- a field whose meaning is not built yet
-abbrev pub has_later_field : List Field → Bool
-has_later_field fields =
-    has (codes "content-length") fields || has (codes "transfer-encoding") fields
-    || has (codes "connection") fields || has (codes "expect") fields
+-- a coding stands before `chunked`
+abbrev pub is_coded : List Field → Bool
+is_coded fields = nat_lt 1 (length (codings_of fields))
 
--- an origin-form without `%`, `?` and segments `.` and `..`
-abbrev pub is_plain_target : Text → Bool
-is_plain_target target =
-    begins_with (codes "/") target && not (list_any (λ b. b == byte "%" || b == byte "?") target)
-    && not (list_any (λ s. is_dot s || is_dots s) (cut_at slash target))
-
--- what is not built yet: HTTP/1.0, a field that decides on framing or persistence, and a target that would have to be read further
-abbrev pub is_later : RequestHead → Bool
-is_later h = h.minor == 0 || has_later_field (fields_of h) || not (is_plain_target h.target)
-
--- The status with which a head is refused: 400 where it is wrong, 501 where it asks for what is not built yet.
+-- The status with which a head is refused: 400 where it is wrong, 501 where its content is coded.
 abbrev pub refusal : RequestHead → Option ℕ
-refusal h = if is_wrong h then Some 400 else (if is_later h then Some 501 else None)
+refusal h = if is_wrong h then Some 400 else (if is_coded (fields_of h) then Some 501 else None)
 
 -- ---- requests
 
@@ -122,12 +138,45 @@ request_of peer h =
       peer = peer;
     }
 
+-- ---- what a connection does not serve yet
+
+abbrev pub is_framed : Framing → Bool
+is_framed Empty = false
+is_framed (Fixed n) = true
+is_framed Chunked = true
+
+abbrev pub is_old : Version → Bool
+is_old V10 = true
+is_old V11 = false
+
+-- content, HTTP/1.0, and fields that decide on persistence or wait for leave to send content
+abbrev pub is_unserved : Version → Framing → List Field → Bool
+is_unserved version framing fields =
+    is_framed framing || is_old version || has (codes "connection") fields || has (codes "expect") fields
+
+-- The status with which a connection refuses a head: that of the head, or 501 for what it does not serve yet.
+abbrev pub connection_refusal : RequestHead → Option ℕ
+connection_refusal h =
+    elim (refusal h) [
+      | Some status ↦ Some status
+      | None ↦ if is_unserved (version_of h) (framing_of (fields_of h)) (fields_of h) then Some 501 else None
+    ]
+
+-- ---- heads at the front of an input
+
 -- The bytes are one whole head that is not refused, and q is its request.
 pub record Head (bytes : List ℕ) (peer : ℕ) (q : Request) : Type 0 where
   pub head : RequestHead
   pub whole : HasHead bytes head []
   pub served : refusal head ≡ None
   pub request : request_of peer head ≡ q
+
+-- the input begins with a head that is refused with this status, by a rule on heads
+pub record IsRefusedBy (rule : RequestHead → Option ℕ) (input : List ℕ) (status : ℕ) : Type 0 where
+  pub head : RequestHead
+  pub rest : List ℕ
+  pub reads : HasHead input head rest
+  pub refused : rule head ≡ Some status
 
 -- of one input at most one front is a head
 abbrev pub HeadIsOne : List ℕ → Type 0

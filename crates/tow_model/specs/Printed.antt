@@ -1,5 +1,5 @@
 -- The printed form of a tree.
-use Rattle.std.specs.Prelude.{ℕ, Bool, true, false, ◌==◌, nat_lt, List, [], ◌∷◌, ◌++◌, map, codes, flat_map, decimal, if◌then◌else◌, Option, None, Some}
+use Rattle.std.specs.Prelude.{ℕ, Bool, true, false, ◌&&◌, ◌==◌, not, nat_lt, List, [], ◌∷◌, ◌++◌, map, codes, flat_map, decimal, if◌then◌else◌, Option, None, Some, unwrap_or}
 use Rattle.std.specs.List.{join_with_byte}
 use Rattle.tow_model.specs.declared.attribute.Piece.{Piece}
 use Rattle.tow_model.specs.declared.action.Target.{Target}
@@ -20,7 +20,7 @@ use Rattle.tow_model.specs.declared.table.TestName.TheVariants as test_names
 use Rattle.tow_model.specs.declared.table.Handler.{Handler}
 use Rattle.tow_model.specs.declared.table.Handler.TheVariants as handlers
 use Rattle.tow_model.specs.Tokens.{are_pieces, last_byte}
-use Rattle.tow_model.specs.Templates.{spelled_template, spelled_attribute}
+use Rattle.tow_model.specs.Templates.{spelled_template, spelled_attribute, spelled_long}
 use Rattle.tow_model.specs.Table.{Parameter, test_name, test_parameters, handler_name, handler_parameters}
 
 -- the texts in a row, with `between` between each two
@@ -43,8 +43,18 @@ printed_text bytes =
 abbrev pub printed_prefix : List ℕ → List ℕ
 printed_prefix bytes = printed_text (if last_byte 92 bytes == 92 then bytes ++ codes "/" else bytes)
 
+-- no Word, and a quote behind it would be taken for one that is escaped
+abbrev pub is_unquotable : List ℕ → Bool
+is_unquotable bytes = not (is_word bytes) && last_byte 0 bytes == 92
+
+-- Each attribute by its own short form. Where the closing quote would be lost, the last attribute that has a long form is spelled by that:
+-- its `}` closes the `%{` or `${` before it that no short form closes, so that the spelling is a Word.
+abbrev pub written_template : List Piece → List ℕ
+written_template t =
+    if is_unquotable (spelled_template t) then unwrap_or (spelled_long t) (spelled_template t) else spelled_template t
+
 abbrev pub printed_template : List Piece → List ℕ
-printed_template t = printed_text (spelled_template t)
+printed_template t = printed_text (written_template t)
 
 abbrev pub printed_array : List (List ℕ) → List ℕ
 printed_array texts = codes "{" ++ (joined_by (codes ", ") texts ++ codes "}")

@@ -4,7 +4,7 @@ use Rattle.httparse.specs.Grammar.{RequestHead}
 use Rattle.tow_model.specs.declared.request.Request.{Request}
 use Rattle.tow_model.specs.declared.content.Content.{Content}
 use Rattle.tow_model.specs.declared.content.Content.TheVariants.{Whole, Bad, TooLong}
-use Rattle.tow_model.specs.Heads.{HasHead, HasNoHead, refusal, request_of}
+use Rattle.tow_model.specs.Heads.{HasHead, HasNoHead, IsRefusedBy, connection_refusal, request_of}
 use Rattle.tow_model.specs.Contents.{HasContent, Gives}
 
 -- nothing more is asked; a head is refused with a status, or there is none; the last request, whose content is not whole;
@@ -25,18 +25,15 @@ pub record IsNoRequest (input : List ℕ) : Type 0 where
   pub no_head : HasNoHead input
   pub not_blank : ¬ (IsBlank input)
 
--- the input begins with a head that is refused with this status
-pub record IsRefused (input : List ℕ) (status : ℕ) : Type 0 where
-  pub head : RequestHead
-  pub rest : List ℕ
-  pub reads : HasHead input head rest
-  pub refused : refusal head ≡ Some status
+-- the input begins with a head that the connection refuses with this status
+abbrev pub IsRefused : List ℕ → ℕ → Type 0
+IsRefused input status = IsRefusedBy connection_refusal input status
 
 -- the input begins with the head of the request q, and rest follows
 pub record HasRequest (peer : ℕ) (input : List ℕ) (q : Request) (rest : List ℕ) : Type 0 where
   pub head : RequestHead
   pub reads : HasHead input head rest
-  pub served : refusal head ≡ None
+  pub served : connection_refusal head ≡ None
   pub request : request_of peer head ≡ q
 
 abbrev pub IsWhole : Option Content → Type 0

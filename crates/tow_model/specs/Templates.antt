@@ -124,6 +124,36 @@ spelled_piece (Value a) = spelled_attribute a
 abbrev pub spelled_template : List Piece → List ℕ
 spelled_template ps = flat_map spelled_piece ps
 
+-- the word of the long form of an attribute that has one
+abbrev pub long_word : Attribute → Option (List ℕ)
+long_word Method = Some (codes "METHOD")
+long_word RequestUrl = Some (codes "REQUEST_URL")
+long_word RelativePath = Some (codes "RELATIVE_PATH")
+long_word Query = Some (codes "QUERY_STRING")
+long_word Status = Some (codes "RESPONSE_CODE")
+long_word RequestLine = Some (codes "REQUEST_LINE")
+long_word Protocol = Some (codes "PROTOCOL")
+long_word RemoteIp = Some (codes "REMOTE_IP")
+long_word RemoteHost = Some (codes "REMOTE_HOST")
+long_word User = Some (codes "REMOTE_USER")
+long_word Moment = Some (codes "DATE_TIME")
+long_word Sent = Some (codes "BYTES_SENT")
+long_word other = None
+
+-- the long form of a piece that has one
+abbrev pub long_form : Piece → Option (List ℕ)
+long_form (Literal bytes) = None
+long_form (Value a) = option_map (λ word. codes "%{" ++ (word ++ codes "}")) (long_word a)
+
+-- the pieces spelled with the long form of the last one that has a long form, where one has
+abbrev pub spelled_long : List Piece → Option (List ℕ)
+spelled_long [] = None
+spelled_long (p ∷ ps) =
+    elim (spelled_long ps) [
+      | Some later ↦ Some (spelled_piece p ++ later)
+      | None ↦ option_map (λ form. form ++ spelled_template ps) (long_form p)
+    ]
+
 -- the formats `common` and `combined`
 abbrev pub space : Piece
 space = Literal (codes " ")
