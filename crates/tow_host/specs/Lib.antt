@@ -1,5 +1,3 @@
-pub mod Counts
-pub mod Entries
 pub mod Held
 pub mod Memory
 pub mod Moments

@@ -1,11 +1,11 @@
 -- What contracts see of a host in memory.
-use Rattle.std.specs.Prelude.{ℕ, Bool, List, [], string_bytes}
+use Rattle.std.specs.Prelude.{◌≡◌, ℕ, Bool, List, [], string_bytes}
 use Rattle.std.specs.Option.{option_map_or}
 use Rattle.tow_link.specs.Data.{SourceData, content_of}
+use Rattle.tow_link.specs.Counts.{Counts}
 use Rattle.tow_host.specs.Held.{Held}
 use Rattle.tow_host.specs.Moments.{MomentsData}
 use Rattle.tow_host.specs.declared.memory_texts.NamedText.{NamedText}
-use Rattle.tow_host.specs.declared.name_counts.NameCount.{NameCount}
 
 pub record MemoryHostData : Type 0 where
   pub held : Held
@@ -14,10 +14,11 @@ pub record MemoryHostData : Type 0 where
   pub moments : MomentsData
   pub text_faults : List (List ℕ × ℕ)
   pub handed : ℕ
+  pub maker : Counts
 
--- a name and its count
-abbrev pub entry_of : NameCount → List ℕ × ℕ
-entry_of count = (string_bytes count.name, count.count)
+-- all but the maker is as it was
+abbrev pub MakerAlone : MemoryHostData → MemoryHostData → Type 0
+MakerAlone old new = new ≡ record old { maker = new.maker }
 
 -- all the bytes of a source that tells them
 abbrev pub source_bytes : SourceData → List ℕ

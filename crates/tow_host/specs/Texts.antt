@@ -1,7 +1,7 @@
 -- The texts of a host, each under a name.
 use Rattle.std.specs.Prelude.{◌≡◌, ℕ, List, Option, IfSome, IsSomeAnd}
 use Rattle.tow_link.specs.Data.{SourceData, fresh_source}
-use Rattle.tow_host.specs.Entries.{entry_at}
+use Rattle.tow_link.specs.Entries.{entry_at}
 
 -- the bytes under a name
 abbrev pub text_named : List (List ℕ × List ℕ) → List ℕ → Option (List ℕ)

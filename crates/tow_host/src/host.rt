@@ -2,13 +2,13 @@ ghost use Rattle.std.specs.Prelude.{◌≡◌, ℕ, ◌+◌, ◌<◌, ◌≤◌,
 ghost use Rattle.std.specs.Result.{is_ok};
 ghost use Rattle.std.specs.Option.{ForSome, option_map_or};
 ghost use Rattle.tow_link.specs.Data.{Rose, raised};
-ghost use Rattle.tow_host.specs.Counts.{Counts, count_at, KeepsOthers};
+ghost use Rattle.tow_link.specs.Counts.{Counts, count_at, KeepsOthers};
 ghost use Rattle.tow_host.specs.Held.{Held, IsFresh, input_shown, output_shown};
 ghost use Rattle.tow_host.specs.Moments.{clock_table};
 ghost use Rattle.tow_host.specs.Texts.{ShowsText};
 
 use crate::Clock;
-use tow_link::{Joined, Sink, Source};
+use tow_link::{Joined, Maker, Sink, Source};
 
 /// Why a host did not give what it was asked for.
 #[derive(Clone, Copy, Debug, PartialEq, Eq)]
@@ -26,8 +26,8 @@ pub struct Kept<T: Drop, J: Drop> {
 }
 
 /// The machine as the server sees it. What it handed out is handed back to it, so that a promise of the layers above
-/// can speak of what it then holds.
-pub trait Host {
+/// can speak of what it then holds. It is the maker of patterns too, whose counts no call but `make` changes.
+pub trait Host: Maker {
     type Text: Source + Drop;
 
     type Input: Source + Drop;
@@ -66,7 +66,8 @@ pub trait Host {
         ensures held { held self.new ≡ held self.old }
         ensures home { is_home self.new ≡ is_home self.old }
         ensures texts { texts self.new ≡ texts self.old }
-        ensures moments { moments self.new ≡ moments self.old };
+        ensures moments { moments self.new ≡ moments self.old }
+        ensures larges { Self.larges self.new ≡ Self.larges self.old };
 
     /// A clock: of this one moment, in seconds since 1970 and before the year 10000, or that of the host. Takes no
     /// memory.
@@ -78,7 +79,8 @@ pub trait Host {
         ensures held { held self.new ≡ held self.old }
         ensures home { is_home self.new ≡ is_home self.old }
         ensures texts { texts self.new ≡ texts self.old }
-        ensures moments { moments self.new ≡ moments self.old };
+        ensures moments { moments self.new ≡ moments self.old }
+        ensures larges { Self.larges self.new ≡ Self.larges self.old };
 
     /// Lends the streams. While they are out, nothing is said of their data in what the host holds. Takes no memory.
     fn lend(&mut self) -> Joined<Self::Input, Self::Output>
@@ -91,7 +93,8 @@ pub trait Host {
         ensures handed { handed self.new ≡ handed self.old }
         ensures faults { text_faults self.new ≡ text_faults self.old }
         ensures texts { texts self.new ≡ texts self.old }
-        ensures moments { moments self.new ≡ moments self.old };
+        ensures moments { moments self.new ≡ moments self.old }
+        ensures larges { Self.larges self.new ≡ Self.larges self.old };
 
     /// Takes back what is there of the parts, and holds them. Takes no memory.
     fn take_back(&mut self, kept: Kept<Self::Text, Joined<Self::Input, Self::Output>>)
@@ -106,5 +109,18 @@ pub trait Host {
         ensures handed { handed self.new ≡ handed self.old }
         ensures faults { text_faults self.new ≡ text_faults self.old }
         ensures texts { texts self.new ≡ texts self.old }
-        ensures moments { moments self.new ≡ moments self.old };
+        ensures moments { moments self.new ≡ moments self.old }
+        ensures larges { Self.larges self.new ≡ Self.larges self.old };
+
+    ghost stays_held: { (old new : Self) → Self.stays old new → held new ≡ held old };
+
+    ghost stays_home: { (old new : Self) → Self.stays old new → is_home new ≡ is_home old };
+
+    ghost stays_text_faults: { (old new : Self) → Self.stays old new → text_faults new ≡ text_faults old };
+
+    ghost stays_handed: { (old new : Self) → Self.stays old new → handed new ≡ handed old };
+
+    ghost stays_texts: { (old new : Self) → Self.stays old new → texts new ≡ texts old };
+
+    ghost stays_moments: { (old new : Self) → Self.stays old new → moments new ≡ moments old };
 }

@@ -7,14 +7,12 @@ mod host;
 mod memory_clock;
 mod memory_host;
 mod memory_texts;
-mod name_counts;
 
 pub use clock::Clock;
 pub use host::{Host, HostFault, Kept};
 pub use memory_clock::{MemoryClock, MomentAt};
 pub use memory_host::MemoryHost;
 pub use memory_texts::{MemoryTexts, NamedText};
-pub use name_counts::NameCounts;
 
 #[cfg(test)]
 mod tests;

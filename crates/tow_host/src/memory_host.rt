@@ -1,13 +1,15 @@
 ghost use Rattle.std.specs.Prelude.{◌≡◌, ◌≤◌, ◌||◌, [], Some, None, true, map, is_some, nat_lt, IfOk, option_copied, if◌then◌else◌};
 ghost use Rattle.std.specs.Option.{option_map_or};
 ghost use Rattle.tow_link.specs.Data.{raised, Rose};
-ghost use Rattle.tow_host.specs.Counts.{count_at, own_counts, KeepsOthers};
+ghost use Rattle.tow_link.specs.Counts.{count_at, own_counts, KeepsOthers};
 ghost use Rattle.tow_host.specs.Held.{no_source, input_shown, output_shown};
 
-use crate::{Host, HostFault, Kept, MemoryClock, MemoryTexts, NameCounts};
+use crate::{Host, HostFault, Kept, MemoryClock, MemoryTexts};
 use std::alloc::Global;
 use std::marker::Model;
-use tow_link::{CallNumbers, Joined, MemorySink, MemorySource};
+use tow_link::{
+    CallNumbers, Joined, KeyCounts, Made, Maker, MemoryMaker, MemorySink, MemorySource,
+};
 
 /// A host in memory, which tells its texts and its moments.
 #[derive(Drop)]
@@ -15,11 +17,12 @@ pub struct MemoryHost {
     texts: MemoryTexts,
     clock: MemoryClock,
     failing: CallNumbers,
-    faults: NameCounts,
+    faults: KeyCounts,
     kept_text: Option<MemorySource>,
     handed: u64,
     returned: u64,
     streams: Option<Joined<MemorySource, MemorySink>>,
+    maker: MemoryMaker,
 }
 
 impl Model for MemoryHost {
@@ -36,6 +39,7 @@ impl Model for MemoryHost {
       moments = host.clock;
       text_faults = host.faults;
       handed = host.handed;
+      maker = host.maker;
     } };
 
     ghost invariant = { λ host. is_some host.kept_text ≡ nat_lt 0 host.returned };
@@ -57,18 +61,27 @@ impl MemoryHost {
           moments = clock;
           text_faults = [];
           handed = 0;
+          maker = own_counts [];
         } }
     {
         MemoryHost {
             texts,
             clock,
             failing: CallNumbers::new(failing),
-            faults: NameCounts::new(alloc),
+            faults: KeyCounts::new(alloc),
             kept_text: None,
             handed: 0,
             returned: 0,
             streams: Some(streams),
+            maker: MemoryMaker::new(KeyCounts::new(alloc)),
         }
+    }
+
+    /// The same host with this maker of patterns. That of a new host refuses none but those that `regex` refuses.
+    pub fn with_maker(self, maker: MemoryMaker) -> Self
+        ensures { result ≡ record self { maker = maker } }
+    {
+        MemoryHost { maker, ..self }
     }
 
     /// The input, where it is not lent.
@@ -83,6 +96,13 @@ impl MemoryHost {
         ensures { option_copied result ≡ (if self.now.is_home then Some self.now.held.output else None) }
     {
         self.streams.as_ref().map(|streams| &streams.output)
+    }
+
+    /// How often it has refused this pattern as too large.
+    pub fn larges_of(&self, pattern: &[u8]) -> u64
+        ensures { result ≡ count_at self.now.maker pattern.now }
+    {
+        self.maker.larges_of(pattern)
     }
 
     /// The text source that was handed back last.
@@ -103,8 +123,25 @@ impl MemoryHost {
     pub fn faults_of(&self, name: &str) -> u64
         ensures { result ≡ count_at (own_counts self.now.text_faults) name.now }
     {
-        self.faults.at(name)
+        self.faults.at(name.as_bytes())
     }
+}
+
+impl Maker for MemoryHost {
+    ghost use Rattle.std.proofs.Common.{ap, refl, ◌∙◌};
+    ghost use Rattle.tow_host.specs.Memory.{MemoryHostData, MakerAlone};
+
+    ghost larges = { λ host. count_at host.maker };
+
+    ghost stays = { MakerAlone };
+
+    fn make(&mut self, alloc: Global, pattern: &[u8]) -> Made {
+        self.maker.make(alloc, pattern)
+    }
+
+    ghost stays_same = { λ host. refl };
+
+    ghost stays_on = { λ first next last one two. two ∙ ap (λ (host : MemoryHostData). record host { maker = last.maker }) one };
 }
 
 impl Host for MemoryHost {
@@ -117,6 +154,8 @@ impl Host for MemoryHost {
     type Clock = MemoryClock;
 
     ghost use Rattle.std.specs.Prelude.{Some};
+    ghost use Rattle.std.proofs.Common.{ap};
+    ghost use Rattle.tow_host.specs.Memory.{MemoryHostData};
     ghost use Rattle.tow_host.specs.Moments.{second_at};
 
     ghost held = { λ host. host.held };
@@ -131,7 +170,7 @@ impl Host for MemoryHost {
 
     ghost moments = { λ host. Some (second_at host.moments) };
 
-    #[tactic(auto, using(crate::proofs::Raising::keeps_all))]
+    #[tactic(auto, using(tow_link::proofs::Raising::keeps_all))]
     fn text(&mut self, name: &str) -> Result<MemorySource, HostFault> {
         if self.failing.next_is_listed() {
             return Err(failed(&mut self.faults, name));
@@ -168,6 +207,7 @@ impl Host for MemoryHost {
         ensures faults { self.new.text_faults ≡ self.old.text_faults }
         ensures texts { self.new.texts ≡ self.old.texts }
         ensures moments { self.new.moments ≡ self.old.moments }
+        ensures larges { count_at self.new.maker ≡ count_at self.old.maker }
     {
         let Kept { text, streams } = kept;
         if text.is_some() {
@@ -178,17 +218,29 @@ impl Host for MemoryHost {
             self.streams = streams;
         }
     }
+
+    ghost stays_held = { λ old new stays. ap (λ (host : MemoryHostData). host.held) stays };
+
+    ghost stays_home = { λ old new stays. ap (λ (host : MemoryHostData). host.is_home) stays };
+
+    ghost stays_text_faults = { λ old new stays. ap (λ (host : MemoryHostData). own_counts host.text_faults) stays };
+
+    ghost stays_handed = { λ old new stays. ap (λ (host : MemoryHostData). host.handed) stays };
+
+    ghost stays_texts = { λ old new stays. ap (λ (host : MemoryHostData). Some host.texts) stays };
+
+    ghost stays_moments = { λ old new stays. ap (λ (host : MemoryHostData). Some (second_at host.moments)) stays };
 }
 
 // Counts a fault under this name. Without memory for the name there is no count, and want of memory is the answer.
-#[tactic(auto, using(crate::proofs::Raising::rose_here, crate::proofs::Raising::later_here, crate::proofs::Raising::keeps_others, crate::proofs::Raising::keeps_all))]
-fn failed(faults: &mut NameCounts, name: &str) -> HostFault
+#[tactic(auto, using(tow_link::proofs::Raising::rose_here, tow_link::proofs::Raising::later_here, tow_link::proofs::Raising::keeps_others, tow_link::proofs::Raising::keeps_all))]
+fn failed(faults: &mut KeyCounts, name: &str) -> HostFault
     ensures failed { result ≡ HostFault.Failed
         → Rose (count_at (own_counts faults.old) name.now) (count_at (own_counts faults.new) name.now) }
     ensures later { count_at (own_counts faults.old) name.now ≤ count_at (own_counts faults.new) name.now }
     ensures others { KeepsOthers (own_counts faults.old) (own_counts faults.new) name.now }
 {
-    match faults.raise(name) {
+    match faults.raise(name.as_bytes()) {
         Ok(()) => HostFault::Failed,
         Err(_) => HostFault::NoMemory,
     }

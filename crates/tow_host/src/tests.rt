@@ -4,7 +4,10 @@ ghost use Rattle.std.specs.Option.{ForSome};
 use super::*;
 use std::alloc::{AllocError, Global};
 use std::test::Fail;
-use tow_link::{Joined, MemorySink, MemorySource, Whole, read_whole, write_all};
+use tow_link::{
+    Joined, KeyCounts, Made, Maker, MemoryMaker, MemorySink, MemorySource, Whole, read_whole,
+    write_all,
+};
 
 fn source(alloc: Global, bytes: &[u8]) -> Result<MemorySource, AllocError> {
     Ok(MemorySource::new(bytes.to_vec(alloc)?, Vec::new(alloc)))
@@ -155,5 +158,32 @@ fn a_clock_tells_its_moments(rt: HostRuntime) -> Result<(), Fail> {
     let (told, given) = moments(rt.alloc())?;
     assert_eq!(rt; told, [5, 7, 5, 8]);
     assert_eq!(rt; given, [9, 9, 9, 9]);
+    Ok(())
+}
+
+// Whether a host that refuses this pattern as too large builds these, and how often it has refused the first of them.
+fn builds(alloc: Global, large: &[u8], patterns: &[&[u8]]) -> Result<(Vec<bool>, u64), AllocError> {
+    let mut counts = KeyCounts::new(alloc);
+    counts.begin(large.to_vec(alloc)?)?;
+    let mut host = host(alloc)?.with_maker(MemoryMaker::new(counts));
+    let mut built = Vec::new(alloc);
+    for pattern in patterns {
+        built.push(is_built(alloc, &mut host, pattern))?;
+    }
+    Ok((
+        built,
+        host.larges_of(patterns.first().copied().unwrap_or(b"")),
+    ))
+}
+
+fn is_built<H: Host>(alloc: Global, host: &mut H, pattern: &[u8]) -> bool {
+    matches!(host.make(alloc, pattern), Made::Built(_))
+}
+
+#[test]
+fn a_host_makes_patterns(rt: HostRuntime) -> Result<(), Fail> {
+    let (built, larges) = builds(rt.alloc(), b"a", &[b"a", b"b", b"("])?;
+    assert_eq!(rt; built.as_slice(), [false, true, false].as_slice());
+    assert_eq!(rt; larges, 1);
     Ok(())
 }

@@ -1,2 +1,4 @@
 pub mod Appending
 pub mod Moving
+pub mod Raising
+pub mod Refusing

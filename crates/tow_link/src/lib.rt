@@ -5,8 +5,12 @@
 
 mod call_numbers;
 mod joined;
+mod key_counts;
+mod maker;
+mod memory_maker;
 mod memory_sink;
 mod memory_source;
+mod pack_maker;
 mod reading;
 mod sink;
 mod source;
@@ -14,8 +18,12 @@ mod writing;
 
 pub use call_numbers::CallNumbers;
 pub use joined::Joined;
+pub use key_counts::KeyCounts;
+pub use maker::{Made, Maker};
+pub use memory_maker::MemoryMaker;
 pub use memory_sink::MemorySink;
 pub use memory_source::MemorySource;
+pub use pack_maker::PackMaker;
 pub use reading::{Whole, read_whole};
 pub use sink::{Sink, Write};
 pub use source::{Read, Source};

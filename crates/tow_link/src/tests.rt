@@ -117,3 +117,58 @@ fn a_sink_counts_its_faults(rt: HostRuntime) -> Result<(), Fail> {
     assert_eq!(rt; sink.faults(), 1);
     Ok(())
 }
+
+// What a maker makes of these patterns one after the other.
+fn makes<M: Maker>(
+    alloc: Global,
+    maker: &mut M,
+    patterns: &[&[u8]],
+) -> Result<Vec<&'static str>, AllocError> {
+    let mut answers = Vec::new(alloc);
+    for pattern in patterns {
+        answers.push(match maker.make(alloc, pattern) {
+            Made::Built(_) => "built",
+            Made::Syntax => "syntax",
+            Made::Large => "large",
+            Made::NoMemory => "no memory",
+        })?;
+    }
+    Ok(answers)
+}
+
+// A maker that refuses these patterns as too large.
+fn memory_maker(alloc: Global, larges: &[&[u8]]) -> Result<MemoryMaker, AllocError> {
+    let mut counts = KeyCounts::new(alloc);
+    for pattern in larges {
+        counts.begin(pattern.to_vec(alloc)?)?;
+    }
+    Ok(MemoryMaker::new(counts))
+}
+
+// A pattern whose program is larger than `regex` allows.
+const TOO_BIG: &[u8] = b"(a{1000}){1000}";
+
+#[test]
+fn patterns_are_built_or_refused(rt: HostRuntime) -> Result<(), Fail> {
+    let mut maker = PackMaker::new();
+    assert_eq!(rt;
+        makes(rt.alloc(), &mut maker, &[b"a(b|c)*", b"(", TOO_BIG])?.as_slice(),
+        ["built", "syntax", "large"].as_slice()
+    );
+    assert_eq!(rt; maker.larges(), 1);
+    Ok(())
+}
+
+#[test]
+fn listed_patterns_are_refused_as_large(rt: HostRuntime) -> Result<(), Fail> {
+    let alloc = rt.alloc();
+    let mut maker = memory_maker(alloc, &[b"a", b"("])?;
+    assert_eq!(rt;
+        makes(alloc, &mut maker, &[b"a", b"b", b")", b"(", b"a", TOO_BIG])?.as_slice(),
+        ["large", "built", "syntax", "large", "large", "large"].as_slice()
+    );
+    assert_eq!(rt; maker.larges_of(b"a"), 2);
+    assert_eq!(rt; maker.larges_of(b"("), 1);
+    assert_eq!(rt; maker.larges_of(TOO_BIG), 1);
+    Ok(())
+}

@@ -1,7 +1,8 @@
--- How often something came, by name.
+-- How often something came, by keys that are texts of bytes.
 use Rattle.std.specs.Prelude.{◌≡◌, ◌≢◌, ℕ, ◌≤◌, List, [], ◌∷◌, if◌then◌else◌, bytes_eq, unwrap_or}
 use Rattle.tow_link.specs.Data.{raised}
-use Rattle.tow_host.specs.Entries.{entry_at}
+use Rattle.tow_link.specs.Entries.{entry_at}
+use Rattle.tow_link.specs.declared.key_counts.KeyCount.{KeyCount}
 
 -- counts of some names, and one number that stands for each other name
 pub record Counts : Type 0 where
@@ -26,3 +27,7 @@ pub record KeepsOthers (old new : Counts) (name : List ℕ) : Type 0 where
 abbrev pub raised_at : List (List ℕ × ℕ) → List ℕ → List (List ℕ × ℕ)
 raised_at [] name = (name, 1) ∷ []
 raised_at (entry ∷ rest) name = if bytes_eq entry.0 name then (entry.0, raised entry.1) ∷ rest else entry ∷ raised_at rest name
+
+-- a key and its count
+abbrev pub entry_of : KeyCount → List ℕ × ℕ
+entry_of count = (count.key.items, count.count)

@@ -1,0 +1,16 @@
+use Rattle.std.proofs.Common.{subst, sym}
+use Rattle.regex.specs.Failures.{IsRightKind}
+use Rattle.tow_model.specs.Patterns.{over_bytes, IsGoodPattern}
+use Rattle.tow_link.proofs.Refusing.{refused_is_bad}
+use Rattle.tow_link.proofs.pack_maker.PackMakerMaker.make.Goals as goal
+
+pub returns-in_default-clause-later : goal.returns-in_default-clause-later
+returns-in_default-clause-later c p = c.refuse.ensures.later
+
+pub returns-in-Err-CompiledTooBig-clause-later : goal.returns-in-Err-CompiledTooBig-clause-later
+returns-in-Err-CompiledTooBig-clause-later c p = c.refuse-in-Err-CompiledTooBig.ensures.later
+
+pub returns-in-Err-Syntax-clause-syntax : goal.returns-in-Err-Syntax-clause-syntax
+returns-in-Err-Syntax-clause-syntax c is good =
+    let fault = c.in-Err-Syntax in
+    refused_is_bad _ _ (fault.ensures.refused fault.field-0-0 fault.field-0-is) (subst (IsRightKind over_bytes c.in-Ok.text.now) fault.field-0-is fault.ensures.kind) (subst IsGoodPattern (sym c.in-Ok.ensures.cases.0) good)
