@@ -4,9 +4,9 @@ use Rattle.std.proofs.Common.{refl, subst}
 use mathlib.Core.Logic.{inl, inr}
 use Rattle.tow_model.specs.Symbols.{Symbol}
 use Rattle.tow_model.specs.Grammar.{TargetThen, is_block}
-use Rattle.tow_parse.specs.declared.call.WrittenText.{WrittenText}
-use Rattle.tow_parse.specs.declared.fault.ParseFault.{ParseFault}
-use Rattle.tow_parse.specs.declared.fault.ParseFault.TheVariants.{Unexpected, TooDeep, UnknownName, BadParameter, BadAttribute, BadTarget, TooManyLimits, NoMemory}
+use Rattle.tow_fit.specs.declared.call.WrittenText.{WrittenText}
+use Rattle.tow_fit.specs.declared.fault.ParseFault.{ParseFault}
+use Rattle.tow_fit.specs.declared.fault.ParseFault.TheVariants.{Unexpected, TooDeep, UnknownName, BadParameter, BadAttribute, BadTarget, TooManyLimits, NoMemory}
 use Rattle.tow_parse.specs.declared.goal.Goal.{Goal}
 use Rattle.tow_parse.specs.declared.goal.Goal.TheVariants.{Named, Parameters}
 use Rattle.tow_parse.specs.declared.goal.Heading.{Heading}

@@ -7,7 +7,7 @@ use Rattle.tow_model.specs.declared.token.TokenKind.TheVariants.{Newline, Equals
 use Rattle.tow_model.specs.Raw.{Written, one, unnamed, RawCall, test, done, act, none}
 use Rattle.tow_model.specs.Symbols.{Sign, word, mark, Symbol}
 use Rattle.tow_model.specs.Grammar.{Rest, Mark, TextThen, CallThen, TargetThen, SeparatorsThen}
-use Rattle.tow_parse.specs.declared.call.WrittenParameters.TheVariants as written
+use Rattle.tow_fit.specs.declared.call.WrittenParameters.TheVariants as written
 use Rattle.tow_parse.specs.declared.goal.Goal.{Goal}
 use Rattle.tow_parse.specs.declared.goal.Goal.TheVariants.{Statements, Statement, Factor, Joined, Target, Else, Told, Called, Named, Parameters}
 use Rattle.tow_parse.specs.declared.goal.Role.{Role}

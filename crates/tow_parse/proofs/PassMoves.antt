@@ -5,15 +5,15 @@ use mathlib.Core.Logic.{inl, inr}
 use Rattle.tow_model.specs.Raw.{RawParameters, unnamed, RawStatement}
 use Rattle.tow_model.specs.Symbols.{Symbol}
 use Rattle.tow_model.specs.Grammar.{Rest, Keyword, SeparatorsThen, BracketsThen, TargetThen, is_block}
-use Rattle.tow_parse.specs.declared.call.Call.{Call}
-use Rattle.tow_parse.specs.declared.call.WrittenText.{WrittenText}
+use Rattle.tow_fit.specs.declared.call.Call.{Call}
+use Rattle.tow_fit.specs.declared.call.WrittenText.{WrittenText}
 use Rattle.tow_parse.specs.declared.goal.Goal.{Goal}
 use Rattle.tow_parse.specs.declared.goal.Goal.TheVariants.{Joined, Target, Else, Told, Called, Named}
 use Rattle.tow_parse.specs.declared.goal.Joint.{Joint}
 use Rattle.tow_parse.specs.declared.goal.Role.TheVariants.{Test, Handler, Front}
 use Rattle.tow_parse.specs.declared.look.Look.{Look}
 use Rattle.tow_parse.specs.declared.look.Look.TheVariants as looks
-use Rattle.tow_parse.specs.Calls.{call_of}
+use Rattle.tow_fit.specs.Calls.{call_of}
 use Rattle.tow_parse.specs.Follows.{Onward, Fills, AllThen, all_parts, JoinedFill, JoinedThen, ElseOrEnd, front_parts, call_named, told_part}
 use Rattle.tow_parse.specs.Looks.{Shows, Sees, waits_else, opens, joins}
 use Rattle.tow_parse.specs.Moved.{Turns, Returns, Passed}

@@ -8,19 +8,19 @@ use Rattle.tow_model.specs.declared.token.TokenKind.TheVariants as kinds
 use Rattle.tow_model.specs.Raw.{Written, RawValue, one, array, RawParameters, unnamed, named}
 use Rattle.tow_model.specs.Symbols.{Sign, word, quoted, mark, Symbol}
 use Rattle.tow_model.specs.Grammar.{Rest, Mark, TextThen, Commas, ValueThen, PairThen, ParametersThen}
-use Rattle.tow_parse.specs.declared.call.WrittenText.{WrittenText}
-use Rattle.tow_parse.specs.declared.call.WrittenValue.{WrittenValue}
-use Rattle.tow_parse.specs.declared.call.WrittenValue.TheVariants as values
-use Rattle.tow_parse.specs.declared.call.WrittenPair.{WrittenPair}
-use Rattle.tow_parse.specs.declared.call.WrittenParameters.{WrittenParameters}
-use Rattle.tow_parse.specs.declared.call.WrittenParameters.TheVariants as written
+use Rattle.tow_fit.specs.declared.call.WrittenText.{WrittenText}
+use Rattle.tow_fit.specs.declared.call.WrittenValue.{WrittenValue}
+use Rattle.tow_fit.specs.declared.call.WrittenValue.TheVariants as values
+use Rattle.tow_fit.specs.declared.call.WrittenPair.{WrittenPair}
+use Rattle.tow_fit.specs.declared.call.WrittenParameters.{WrittenParameters}
+use Rattle.tow_fit.specs.declared.call.WrittenParameters.TheVariants as written
 use Rattle.tow_parse.specs.declared.goal.Array.{Array}
 use Rattle.tow_parse.specs.declared.goal.Slot.{Slot}
 use Rattle.tow_parse.specs.declared.goal.Slot.TheVariants as slots
 use Rattle.tow_parse.specs.declared.goal.Phase.{Phase}
 use Rattle.tow_parse.specs.declared.goal.Phase.TheVariants as phases
-use Rattle.tow_parse.specs.Calls.{written_of, value_of, pair_of, parameters_of, call_of}
-use Rattle.tow_parse.specs.declared.call.Call.{Call}
+use Rattle.tow_fit.specs.Calls.{written_of, value_of, pair_of, parameters_of, call_of}
+use Rattle.tow_fit.specs.declared.call.Call.{Call}
 use Rattle.tow_parse.specs.declared.goal.Goal.{Goal}
 use Rattle.tow_parse.specs.declared.goal.Goal.TheVariants.{Parameters}
 use Rattle.tow_parse.specs.declared.goal.Heading.{Heading}
@@ -30,8 +30,8 @@ use Rattle.tow_parse.specs.Follows.{bracket, RoleFill, RoleThen, RoleWithin, rol
 use Rattle.tow_parse.specs.Moved.{Turns, Returns, Moved}
 use Rattle.tow_parse.specs.Parts.{RawPart}
 use Rattle.tow_parse.specs.Shape.{role_stage, Behind, Shaped}
-use Rattle.tow_parse.specs.declared.fault.ParseFault.{ParseFault}
-use Rattle.tow_parse.specs.declared.fault.ParseFault.TheVariants as faults
+use Rattle.tow_fit.specs.declared.fault.ParseFault.{ParseFault}
+use Rattle.tow_fit.specs.declared.fault.ParseFault.TheVariants as faults
 use Rattle.tow_parse.specs.declared.look.Look.{Look}
 use Rattle.tow_parse.specs.declared.look.Look.TheVariants as looks
 use Rattle.tow_parse.specs.declared.phase.Place.{Place}

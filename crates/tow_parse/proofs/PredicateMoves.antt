@@ -6,14 +6,14 @@ use Rattle.tow_model.specs.Raw.{Written, RawCall, RawPredicate, alone, or_more, 
 use Rattle.tow_model.specs.Symbols.{word, Symbol}
 use Rattle.tow_model.specs.Grammar.{Mark, PredicateThen, is_reserved}
 use Rattle.tow_model.specs.Levels.{FactorWithin, PredicateWithin, ConjunctionWithin}
-use Rattle.tow_parse.specs.declared.call.WrittenText.{WrittenText}
+use Rattle.tow_fit.specs.declared.call.WrittenText.{WrittenText}
 use Rattle.tow_parse.specs.declared.goal.Goal.{Goal}
 use Rattle.tow_parse.specs.declared.goal.Goal.TheVariants.{Factor, Joined, Told, Named}
 use Rattle.tow_parse.specs.declared.goal.Role.TheVariants.{Test}
 use Rattle.tow_parse.specs.declared.goal.Joint.TheVariants as joints
 use Rattle.tow_parse.specs.declared.look.Look.{Look}
 use Rattle.tow_parse.specs.declared.look.Look.TheVariants.{Not, Name, OpenRound}
-use Rattle.tow_parse.specs.Calls.{written_of}
+use Rattle.tow_fit.specs.Calls.{written_of}
 use Rattle.tow_parse.specs.Follows.{Fills, AllThen, AllWithin, Follows, all_parts, call_named}
 use Rattle.tow_parse.specs.Looks.{Shows}
 use Rattle.tow_parse.specs.Moved.{Turns, Returns, Moved}

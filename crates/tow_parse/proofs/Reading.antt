@@ -10,12 +10,12 @@ use Rattle.tow_model.specs.Symbols.{Symbol, joined, symbol_of, symbols_of}
 use Rattle.tow_model.specs.Grammar.{AtEnd}
 use Rattle.tow_model.specs.Tokens.{Cuts}
 use Rattle.tow_model.specs.Syntax.{IsList, Begins, IsSyntaxFault, place_at}
-use Rattle.tow_parse.specs.declared.fault.ParseFault.{ParseFault}
-use Rattle.tow_parse.specs.declared.fault.ParseFault.TheVariants.{Unexpected, TooDeep, UnknownName, BadParameter, BadAttribute, BadTarget, TooManyLimits, NoMemory}
+use Rattle.tow_fit.specs.declared.fault.ParseFault.{ParseFault}
+use Rattle.tow_fit.specs.declared.fault.ParseFault.TheVariants.{Unexpected, TooDeep, UnknownName, BadParameter, BadAttribute, BadTarget, TooManyLimits, NoMemory}
 use Rattle.tow_parse.specs.declared.goal.Goal.TheVariants.{Statements}
 use Rattle.tow_parse.specs.declared.part.Part.{Part}
 use Rattle.tow_parse.specs.declared.step.Reader.{Reader}
-use Rattle.tow_parse.specs.Faults.{parse_fault}
+use Rattle.tow_fit.specs.Faults.{parse_fault}
 use Rattle.tow_parse.specs.Follows.{Leads, AllThen}
 use Rattle.tow_parse.specs.Parts.{RawPart, raw_part, parts_of}
 use Rattle.tow_parse.specs.Readers.{Makes, MayFollow, Agrees, Steps, Halts, Finishes, EndsEarly}

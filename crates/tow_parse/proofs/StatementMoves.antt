@@ -8,7 +8,7 @@ use Rattle.tow_model.specs.Raw.{Written, RawCall, RawPredicate, alone, or_more, 
 use Rattle.tow_model.specs.Symbols.{word, mark, Symbol}
 use Rattle.tow_model.specs.Grammar.{Rest, FactorThen, PredicateThen, is_reserved, is_block, ends_in_brace, StatementThen, TargetThen}
 use Rattle.tow_model.specs.Levels.{PredicateWithin, FactorWithin}
-use Rattle.tow_parse.specs.declared.call.WrittenText.{WrittenText}
+use Rattle.tow_fit.specs.declared.call.WrittenText.{WrittenText}
 use Rattle.tow_parse.specs.declared.goal.Goal.{Goal}
 use Rattle.tow_parse.specs.declared.goal.Goal.TheVariants.{Statement, Factor, Joined, Target, Else, Named}
 use Rattle.tow_parse.specs.declared.goal.Role.TheVariants.{Test, Front}

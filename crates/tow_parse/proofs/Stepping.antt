@@ -9,9 +9,9 @@ use Rattle.tow_model.specs.declared.token.TokenKind.TheVariants.{Comma}
 use Rattle.tow_model.specs.Raw.{Written, RawValue, one, array, RawParameters, unnamed, named, RawPredicate, alone, or_more, single, and_more, RawFactor, test, negated, grouped, RawTarget, handler, restart, done, block, RawStatement, act, when, when_else, RawList, none, more}
 use Rattle.tow_model.specs.Symbols.{Symbol, joined}
 use Rattle.tow_model.specs.Grammar.{Rest, Mark, Commas, TextThen, ValueThen, ParametersThen, FactorThen, PredicateThen, TargetThen, StatementThen, ends_in_brace}
-use Rattle.tow_parse.specs.declared.call.WrittenParameters.TheVariants as written
-use Rattle.tow_parse.specs.declared.fault.ParseFault.{ParseFault}
-use Rattle.tow_parse.specs.declared.fault.ParseFault.TheVariants.{Unexpected, TooDeep, UnknownName, BadParameter, BadAttribute, BadTarget, TooManyLimits, NoMemory}
+use Rattle.tow_fit.specs.declared.call.WrittenParameters.TheVariants as written
+use Rattle.tow_fit.specs.declared.fault.ParseFault.{ParseFault}
+use Rattle.tow_fit.specs.declared.fault.ParseFault.TheVariants.{Unexpected, TooDeep, UnknownName, BadParameter, BadAttribute, BadTarget, TooManyLimits, NoMemory}
 use Rattle.tow_parse.specs.declared.goal.Goal.{Goal}
 use Rattle.tow_parse.specs.declared.goal.Goal.TheVariants.{Statements, Statement, Factor, Joined, Target, Else, Told, Called, Named, Parameters}
 use Rattle.tow_parse.specs.declared.goal.Slot.{Slot}

@@ -6,13 +6,13 @@ use Rattle.tow_model.specs.Raw.{Written, RawCall, RawTarget, handler, restart, d
 use Rattle.tow_model.specs.Symbols.{Sign, word, Symbol}
 use Rattle.tow_model.specs.Grammar.{Rest, Mark, ListThen, TargetThen, is_reserved}
 use Rattle.tow_model.specs.Levels.{ListWithin}
-use Rattle.tow_parse.specs.declared.call.WrittenText.{WrittenText}
+use Rattle.tow_fit.specs.declared.call.WrittenText.{WrittenText}
 use Rattle.tow_parse.specs.declared.goal.Goal.{Goal}
 use Rattle.tow_parse.specs.declared.goal.Goal.TheVariants.{Statements, Target, Named}
 use Rattle.tow_parse.specs.declared.goal.Role.TheVariants.{Handler}
 use Rattle.tow_parse.specs.declared.look.Look.{Look}
 use Rattle.tow_parse.specs.declared.look.Look.TheVariants as looks
-use Rattle.tow_parse.specs.Calls.{written_of}
+use Rattle.tow_fit.specs.Calls.{written_of}
 use Rattle.tow_parse.specs.Follows.{AllThen, Follows, all_parts, call_named, After}
 use Rattle.tow_parse.specs.Looks.{Shows}
 use Rattle.tow_parse.specs.Moved.{Turns, Returns, Moved}

@@ -2,7 +2,7 @@
 use Rattle.std.specs.Prelude.{◌≡◌, reverse}
 use Rattle.tow_parse.specs.declared.assembly.builder.Builder.{Builder}
 use Rattle.tow_parse.specs.Building.{Built, goes, stuck, step}
-use Rattle.tow_parse.specs.Calls.{counts_of}
+use Rattle.tow_fit.specs.Calls.{counts_of}
 use Rattle.tow_parse.specs.Parts.{RawPart}
 
 -- the top of a stack is its last item

@@ -6,8 +6,8 @@ use Rattle.tow_model.specs.declared.predicate.Predicate.TheVariants.{Is, Not, An
 use Rattle.tow_model.specs.declared.statement.Statement.{Statement}
 use Rattle.tow_model.specs.declared.statement.Statement.TheVariants.{When, Act, Block}
 use Rattle.tow_model.specs.Fit.{TextFault, Counts, no_counts, Fitted, fit_test, fit_action}
-use Rattle.tow_parse.specs.declared.fault.ParseFault.{ParseFault}
-use Rattle.tow_parse.specs.Faults.{parse_fault}
+use Rattle.tow_fit.specs.declared.fault.ParseFault.{ParseFault}
+use Rattle.tow_fit.specs.Faults.{parse_fault}
 use Rattle.tow_parse.specs.Parts.{RawPart, a_test, a_not, an_and, an_or, a_handler, a_restart, a_done, an_open, a_close, a_when, a_when_else, an_end}
 
 -- what is built and not yet part of something: predicates and statements, the last one first; the statements of the

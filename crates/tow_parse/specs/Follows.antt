@@ -12,8 +12,8 @@ use Rattle.tow_parse.specs.declared.goal.Role.{Role}
 use Rattle.tow_parse.specs.declared.goal.Role.TheVariants.{Test, Handler, Front}
 use Rattle.tow_parse.specs.declared.goal.Joint.{Joint}
 use Rattle.tow_parse.specs.declared.goal.Joint.TheVariants as joints
-use Rattle.tow_parse.specs.Calls.{call_of, written_of}
-use Rattle.tow_parse.specs.declared.call.WrittenText.{WrittenText}
+use Rattle.tow_fit.specs.Calls.{call_of, written_of}
+use Rattle.tow_fit.specs.declared.call.WrittenText.{WrittenText}
 use Rattle.tow_parse.specs.Phases.{PhaseFill, PhaseThen, phase_made}
 use Rattle.tow_parse.specs.Parts.{RawPart, a_test, a_not, an_and, an_or, a_handler, a_close, a_when, a_when_else, an_end, and_parts, or_parts, factor_parts, target_parts, statement_parts, list_parts}
 

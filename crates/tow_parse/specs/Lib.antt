@@ -1,17 +1,11 @@
 pub mod Builders
 pub mod Building
-pub mod Calls
-pub mod Faults
-pub mod Fitting
 pub mod Follows
 pub mod Looks
-pub mod Making
 pub mod Moved
 pub mod Moves
 pub mod Parts
 pub mod Phased
 pub mod Phases
-pub mod PrintParts
-pub mod PrintWords
 pub mod Readers
 pub mod Shape

@@ -2,8 +2,8 @@
 use Rattle.std.specs.Prelude.{◌≡◌, ◌↔◌, ℕ, Bool, true, false, not, Option, Some, None, List, [], ◌∷◌, map, ⊤}
 use Rattle.tow_model.specs.declared.token.TokenKind.TheVariants.{Newline}
 use Rattle.tow_model.specs.Symbols.{mark, Symbol}
-use Rattle.tow_parse.specs.declared.fault.ParseFault.{ParseFault}
-use Rattle.tow_parse.specs.declared.fault.ParseFault.TheVariants.{Unexpected, TooDeep, NoMemory}
+use Rattle.tow_fit.specs.declared.fault.ParseFault.{ParseFault}
+use Rattle.tow_fit.specs.declared.fault.ParseFault.TheVariants.{Unexpected, TooDeep, NoMemory}
 use Rattle.tow_parse.specs.declared.goal.Goal.{Goal}
 use Rattle.tow_parse.specs.declared.goal.Goal.TheVariants as goals
 use Rattle.tow_parse.specs.declared.look.Look.{Look}

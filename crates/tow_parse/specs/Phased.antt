@@ -1,25 +1,25 @@
 -- What a token does between the brackets of a call.
 use Rattle.std.specs.Prelude.{◌≡◌, ◌⊎◌, ℕ, Bool, false, List, [], ◌∷◌, ◌++◌, ⊤}
 use Rattle.tow_model.specs.Symbols.{word, quoted, Symbol}
-use Rattle.tow_parse.specs.declared.call.WrittenText.{WrittenText}
-use Rattle.tow_parse.specs.declared.call.WrittenValue.{WrittenValue}
-use Rattle.tow_parse.specs.declared.call.WrittenPair.{WrittenPair}
-use Rattle.tow_parse.specs.declared.call.WrittenParameters.{WrittenParameters}
-use Rattle.tow_parse.specs.declared.call.WrittenParameters.TheVariants as written
-use Rattle.tow_parse.specs.declared.fault.ParseFault.{ParseFault}
-use Rattle.tow_parse.specs.declared.fault.ParseFault.TheVariants.{Unexpected, NoMemory}
+use Rattle.tow_fit.specs.declared.call.WrittenText.{WrittenText}
+use Rattle.tow_fit.specs.declared.call.WrittenValue.{WrittenValue}
+use Rattle.tow_fit.specs.declared.call.WrittenPair.{WrittenPair}
+use Rattle.tow_fit.specs.declared.call.WrittenParameters.{WrittenParameters}
+use Rattle.tow_fit.specs.declared.call.WrittenParameters.TheVariants as written
+use Rattle.tow_fit.specs.declared.fault.ParseFault.{ParseFault}
+use Rattle.tow_fit.specs.declared.fault.ParseFault.TheVariants.{Unexpected, NoMemory}
 use Rattle.tow_parse.specs.declared.goal.Slot.{Slot}
 use Rattle.tow_parse.specs.declared.goal.Slot.TheVariants as slots
 use Rattle.tow_parse.specs.declared.goal.Phase.{Phase}
 use Rattle.tow_parse.specs.declared.phase.Place.{Place}
 use Rattle.tow_parse.specs.declared.phase.Place.TheVariants.{At, Over}
-use Rattle.tow_parse.specs.declared.call.Call.{Call}
+use Rattle.tow_fit.specs.declared.call.Call.{Call}
 use Rattle.tow_parse.specs.declared.goal.Goal.{Goal}
 use Rattle.tow_parse.specs.declared.goal.Goal.TheVariants.{Called, Parameters}
 use Rattle.tow_parse.specs.declared.goal.Heading.{Heading}
 use Rattle.tow_parse.specs.declared.goal.Role.{Role}
 use Rattle.tow_parse.specs.declared.goal.Role.TheVariants.{Test, Handler, Front}
-use Rattle.tow_parse.specs.Calls.{call_of}
+use Rattle.tow_fit.specs.Calls.{call_of}
 use Rattle.tow_parse.specs.Follows.{Follows}
 use Rattle.tow_parse.specs.Moved.{Moved}
 use Rattle.tow_parse.specs.Parts.{RawPart, a_test, a_handler}

@@ -4,13 +4,13 @@ use mathlib.Core.Logic.{inl, inr}
 use Rattle.tow_model.specs.declared.token.TokenKind.TheVariants.{Comma, Equals, CloseBrace}
 use Rattle.tow_model.specs.Raw.{Written, RawValue, one, array, RawParameters, unnamed, named}
 use Rattle.tow_model.specs.Grammar.{Rest, Mark, TextThen, Commas, ValueThen, PairThen, ParametersThen}
-use Rattle.tow_parse.specs.declared.call.WrittenParameters.{WrittenParameters}
-use Rattle.tow_parse.specs.declared.call.WrittenParameters.TheVariants as written
+use Rattle.tow_fit.specs.declared.call.WrittenParameters.{WrittenParameters}
+use Rattle.tow_fit.specs.declared.call.WrittenParameters.TheVariants as written
 use Rattle.tow_parse.specs.declared.goal.Slot.{Slot}
 use Rattle.tow_parse.specs.declared.goal.Slot.TheVariants as slots
 use Rattle.tow_parse.specs.declared.goal.Phase.{Phase}
 use Rattle.tow_parse.specs.declared.goal.Phase.TheVariants as phases
-use Rattle.tow_parse.specs.Calls.{written_of, value_of, pair_of}
+use Rattle.tow_fit.specs.Calls.{written_of, value_of, pair_of}
 
 -- what is left of some parts with commas between, behind the first
 abbrev pub CommasThen : {A : Type 0} → (A → Rest → Rest) → List A → Rest → Rest

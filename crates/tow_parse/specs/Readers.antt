@@ -3,8 +3,8 @@ use Rattle.std.specs.Prelude.{◌≡◌, ◌↔◌, ℕ, ◌+◌, List, [], ◌�
 use Rattle.tow_model.specs.Raw.{RawList}
 use Rattle.tow_model.specs.Symbols.{Symbol, joined}
 use Rattle.tow_model.specs.Syntax.{IsList}
-use Rattle.tow_parse.specs.declared.fault.ParseFault.{ParseFault}
-use Rattle.tow_parse.specs.declared.fault.ParseFault.TheVariants.{Unexpected, TooDeep, NoMemory}
+use Rattle.tow_fit.specs.declared.fault.ParseFault.{ParseFault}
+use Rattle.tow_fit.specs.declared.fault.ParseFault.TheVariants.{Unexpected, TooDeep, NoMemory}
 use Rattle.tow_parse.specs.declared.part.Part.{Part}
 use Rattle.tow_parse.specs.declared.step.Reader.{Reader}
 use Rattle.tow_parse.specs.Follows.{Leads, Follows}

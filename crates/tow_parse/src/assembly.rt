@@ -1,17 +1,17 @@
 ghost use Rattle.std.specs.Prelude.{◌≡◌, map, Ok, IfOk, IfErr};
 ghost use Rattle.tow_model.specs.Raw.{RawList};
 ghost use Rattle.tow_model.specs.Fit as fits;
-ghost use Rattle.tow_parse.specs.Faults.{Fails};
+ghost use Rattle.tow_fit.specs.Faults.{Fails};
 ghost use Rattle.tow_parse.specs.Parts.{parts_of, raw_part};
 
 mod builder;
 mod stack;
 
 use crate::assembly::builder::Builder;
-use crate::fault::ParseFault;
 use crate::parsed::Parsed;
 use crate::part::Part;
 use std::alloc::Global;
+use tow_fit::ParseFault;
 
 /// Builds the tree of the parts, each call fitted to the tables, or finds the first call that does not fit. Takes memory for
 /// the tree.

@@ -2,18 +2,17 @@ ghost use Rattle.std.specs.Prelude.{◌≡◌, ◌≤◌, ◌∷◌, ◌++◌, t
 ghost use Rattle.tow_model.specs.Symbols.{symbol_of};
 ghost use Rattle.tow_parse.specs.declared.goal.Goal.TheVariants.{Named, Parameters};
 ghost use Rattle.tow_parse.specs.Looks.{Shows, opens};
-ghost use Rattle.tow_parse.specs.declared.fault.ParseFault.TheVariants.{NoMemory};
+ghost use Rattle.tow_fit.specs.declared.fault.ParseFault.TheVariants.{NoMemory};
 ghost use Rattle.tow_parse.specs.Moves.{Takes, Stops, told};
 ghost use Rattle.tow_parse.specs.Phased.{role_goals, role_told, call_with};
 ghost use Rattle.tow_parse.specs.Shape.{Shaped};
 
-use crate::call::{Call, WrittenParameters, WrittenText};
-use crate::fault::ParseFault;
 use crate::goal::{Goal, Heading, Phase, Role};
 use crate::look::Look;
 use crate::part::Part;
 use crate::phase::{Place, next_place};
 use crate::state::State;
+use tow_fit::{Call, ParseFault, WrittenParameters, WrittenText};
 use tow_model::Token;
 
 impl State {

@@ -1,4 +1,4 @@
-use crate::call::{Call, WrittenPair, WrittenParameters, WrittenText, WrittenValue};
+use tow_fit::{Call, WrittenPair, WrittenParameters, WrittenText, WrittenValue};
 use tow_model::List;
 
 /// What a call is read for.

@@ -4,13 +4,13 @@ ghost use Rattle.tow_model.specs.Fit as fits;
 ghost use Rattle.tow_model.specs.Fault.{IsFault};
 ghost use Rattle.tow_model.specs.Syntax.{Reads};
 ghost use Rattle.tow_model.specs.Tokens.{Cuts};
-ghost use Rattle.tow_parse.specs.Faults.{parse_fault};
+ghost use Rattle.tow_fit.specs.Faults.{parse_fault};
 
 use crate::assembly::assembled;
-use crate::fault::ParseFault;
 use crate::parsed::Parsed;
 use crate::reader::read;
 use std::alloc::Global;
+use tow_fit::ParseFault;
 use tow_lex::Tokens;
 
 /// Reads the tokens of a text as its tree. The first fault decides: one of the grammar comes before one of a call. Takes

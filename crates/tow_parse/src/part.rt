@@ -1,4 +1,4 @@
-use crate::call::Call;
+use tow_fit::Call;
 
 /// A step of building a tree. The parts of a text stand in the order of its calls; what joins things follows them.
 #[derive(Debug, Drop)]

@@ -1,5 +1,5 @@
 ghost use Rattle.std.specs.Prelude.{◌≡◌, ◌∷◌, [], false, IfOk, IfErr, IfSome, IfNone};
-ghost use Rattle.tow_parse.specs.declared.fault.ParseFault.TheVariants.{NoMemory};
+ghost use Rattle.tow_fit.specs.declared.fault.ParseFault.TheVariants.{NoMemory};
 ghost use Rattle.tow_parse.specs.declared.goal.Goal.TheVariants.{Called, Named};
 ghost use Rattle.tow_parse.specs.Follows.{told_part};
 ghost use Rattle.tow_parse.specs.Looks.{opens};
@@ -7,12 +7,11 @@ ghost use Rattle.tow_parse.specs.Parts.{raw_part};
 ghost use Rattle.tow_parse.specs.Moves.{Passes, Waits};
 ghost use Rattle.tow_parse.specs.Shape.{Shaped};
 
-use crate::call::{Call, WrittenParameters, WrittenText};
-use crate::fault::ParseFault;
 use crate::goal::{Goal, Joint, Role};
 use crate::look::Look;
 use crate::part::Part;
 use crate::state::State;
+use tow_fit::{Call, ParseFault, WrittenParameters, WrittenText};
 use tow_model::List;
 
 impl State {

@@ -1,17 +1,16 @@
 ghost use Rattle.std.specs.Prelude.{◌≡◌, ◌≤◌, [], ◌∷◌, ◌++◌, length, IfOk, IfErr};
 ghost use Rattle.tow_model.specs.Symbols.{symbol_of};
-ghost use Rattle.tow_parse.specs.declared.call.WrittenValue.TheVariants as values;
+ghost use Rattle.tow_fit.specs.declared.call.WrittenValue.TheVariants as values;
 ghost use Rattle.tow_parse.specs.declared.goal.Phase.TheVariants as phases;
 ghost use Rattle.tow_parse.specs.Looks.{Shows};
 ghost use Rattle.tow_parse.specs.Phased.{PhaseTakes, PhaseStops, filled};
 
-use crate::call::{WrittenPair, WrittenParameters, WrittenText, WrittenValue};
-use crate::fault::ParseFault;
 use crate::goal::{Array, Phase, Slot};
 use crate::look::Look;
 use crate::quoted::quoted_at;
 use crate::written::word_at;
 use std::alloc::{AllocError, Global};
+use tow_fit::{ParseFault, WrittenPair, WrittenParameters, WrittenText, WrittenValue};
 use tow_model::{List, Token};
 
 /// What comes behind a token between brackets.

@@ -2,17 +2,17 @@ ghost use Rattle.std.specs.Prelude.{◌≡◌, ◌≤◌, ◌∷◌, ◌++◌, l
 ghost use Rattle.tow_model.specs.Symbols.{symbol_of};
 ghost use Rattle.tow_parse.specs.declared.goal.Goal.TheVariants.{Factor, Joined};
 ghost use Rattle.tow_parse.specs.Looks.{Shows};
-ghost use Rattle.tow_parse.specs.declared.fault.ParseFault.TheVariants.{NoMemory};
+ghost use Rattle.tow_fit.specs.declared.fault.ParseFault.TheVariants.{NoMemory};
 ghost use Rattle.tow_parse.specs.Follows.{pending_parts};
 ghost use Rattle.tow_parse.specs.Moves.{Takes, Stops, told};
 ghost use Rattle.tow_parse.specs.Shape.{Shaped};
 
-use crate::fault::ParseFault;
 use crate::goal::{Goal, Joint, Role};
 use crate::look::Look;
 use crate::part::Part;
 use crate::state::State;
 use crate::written::written_name;
+use tow_fit::ParseFault;
 use tow_model::Token;
 
 impl State {

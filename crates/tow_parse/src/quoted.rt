@@ -2,8 +2,8 @@ ghost use Rattle.std.specs.Prelude.{◌≡◌, ◌+◌, ◌<◌, ◌≤◌, ◌=
 ghost use Rattle.tow_model.specs.Symbols.{symbol_of, inner, quoted, unescaped};
 ghost use Rattle.tow_model.specs.Tokens.{next_is};
 
-use crate::call::WrittenText;
 use std::alloc::{AllocError, Global};
+use tow_fit::WrittenText;
 use tow_model::{Bytes, Token, TokenKind};
 
 /// The token as it is written, if it is a Quoted. Takes memory for the bytes that it stands for.

@@ -3,13 +3,13 @@ ghost use Rattle.tow_model.specs.Raw.{RawList};
 ghost use Rattle.tow_model.specs.Symbols.{symbols_of};
 ghost use Rattle.tow_model.specs.Syntax.{IsList, IsSyntaxFault};
 ghost use Rattle.tow_model.specs.Tokens.{Cuts};
-ghost use Rattle.tow_parse.specs.Faults.{parse_fault};
+ghost use Rattle.tow_fit.specs.Faults.{parse_fault};
 ghost use Rattle.tow_parse.specs.Parts.{parts_of, raw_part};
 
-use crate::fault::ParseFault;
 use crate::part::Part;
 use crate::step::Reader;
 use std::alloc::Global;
+use tow_fit::ParseFault;
 use tow_lex::Tokens;
 
 /// Reads the tokens of a text as the parts of its tree, or finds the first token with which the grammar is left. Takes

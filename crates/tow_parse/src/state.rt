@@ -1,12 +1,12 @@
 ghost use Rattle.std.specs.Prelude.{◌≡◌, [], ◌∷◌, ◌++◌, true, false, OnOk, IfOk, IfErr};
-ghost use Rattle.tow_parse.specs.declared.fault.ParseFault.TheVariants.{NoMemory};
+ghost use Rattle.tow_fit.specs.declared.fault.ParseFault.TheVariants.{NoMemory};
 ghost use Rattle.tow_parse.specs.declared.goal.Goal.TheVariants.{Statements};
 
-use crate::fault::ParseFault;
 use crate::goal::Goal;
 use crate::goals::Goals;
 use crate::part::Part;
 use std::alloc::Global;
+use tow_fit::ParseFault;
 use tow_model::List;
 
 /// How many levels a text may open at once.

@@ -5,12 +5,12 @@ ghost use Rattle.tow_parse.specs.Looks.{Shows, waits_else};
 ghost use Rattle.tow_parse.specs.Moves.{Takes, Stops};
 ghost use Rattle.tow_parse.specs.Shape.{Shaped};
 
-use crate::fault::ParseFault;
 use crate::goal::{Goal, Joint, Role};
 use crate::look::Look;
 use crate::part::Part;
 use crate::state::State;
 use crate::written::written_name;
+use tow_fit::ParseFault;
 use tow_model::Token;
 
 impl State {

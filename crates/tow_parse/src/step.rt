@@ -1,17 +1,17 @@
 ghost use Rattle.std.specs.Prelude.{◌≡◌, ◌+◌, ◌<◌, ◌≤◌, ◌^◌, length, OnOk, IfOk, IfErr, [], ◌∷◌};
 ghost use Rattle.tow_model.specs.Symbols.{symbol_of};
-ghost use Rattle.tow_parse.specs.declared.fault.ParseFault.TheVariants.{NoMemory};
+ghost use Rattle.tow_fit.specs.declared.fault.ParseFault.TheVariants.{NoMemory};
 ghost use Rattle.tow_parse.specs.Looks.{Shows, opened};
 ghost use Rattle.tow_parse.specs.Moves.{Takes, Stops, Waits, ends_at};
 ghost use Rattle.tow_parse.specs.Readers.{Agrees, Steps, Halts, Finishes, EndsEarly};
 ghost use Rattle.tow_parse.specs.Shape.{Shaped};
 
-use crate::fault::ParseFault;
 use crate::goal::Goal;
 use crate::look::{Look, look_at};
 use crate::part::Part;
 use crate::state::State;
 use std::alloc::Global;
+use tow_fit::ParseFault;
 use tow_model::{List, Token};
 
 /// A reader with the count of the round and square brackets that are open; in these a Newline is white space.

@@ -3,8 +3,8 @@ ghost use Rattle.tow_model.specs.Symbols.{symbol_of, unescaped, word, quoted};
 ghost use Rattle.tow_parse.specs.declared.look.Look.TheVariants.{Name};
 ghost use Rattle.tow_parse.specs.Looks.{Shows};
 
-use crate::call::WrittenText;
 use std::alloc::{AllocError, Global};
+use tow_fit::WrittenText;
 use tow_model::{Bytes, Token, TokenKind};
 
 /// A Word as it is written. Takes memory for its bytes.

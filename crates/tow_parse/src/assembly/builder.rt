@@ -1,19 +1,16 @@
 ghost use Rattle.std.specs.Prelude.{◌≡◌, OnOk, IfErr};
 ghost use Rattle.tow_parse.specs.Builders.{built_of, Has, Takes};
 ghost use Rattle.tow_parse.specs.Building.{nothing, step, FailsAt};
-ghost use Rattle.tow_parse.specs.Calls.{call_of};
+ghost use Rattle.tow_fit.specs.Calls.{call_of};
 ghost use Rattle.tow_parse.specs.Parts as parts;
 
 use crate::assembly::stack::{pop, put};
-use crate::call::Call;
-use crate::counts::Counts;
-use crate::fault::ParseFault;
-use crate::fitting::{fitted_action, fitted_test};
 use crate::parsed::Parsed;
 use crate::part::Part;
 use sqlite_items::{Boxed, Items};
 use std::alloc::{AllocError, Global};
 use std::mem;
+use tow_fit::{Call, Counts, ParseFault, fitted_action, fitted_test};
 use tow_model::{Action, List, Predicate, Statement};
 
 /// What is built of a tree so far.

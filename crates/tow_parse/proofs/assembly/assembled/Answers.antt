@@ -5,8 +5,8 @@ use Rattle.std.specs.Vec.Iter.{into_iter_items}
 use Rattle.tow_model.specs.Fit.{fit}
 use Rattle.tow_parse.specs.Builders.{built_of}
 use Rattle.tow_parse.specs.Building.{play, nothing}
-use Rattle.tow_parse.specs.Calls.{counts_of}
-use Rattle.tow_parse.specs.Faults.{Fails}
+use Rattle.tow_fit.specs.Calls.{counts_of}
+use Rattle.tow_fit.specs.Faults.{Fails}
 use Rattle.tow_parse.specs.Parts.{raw_part}
 use Rattle.tow_parse.proofs.Playing.{played_out, fault_named, never_stuck}
 use Rattle.tow_parse.proofs.assembly.assembled.Goals as goal

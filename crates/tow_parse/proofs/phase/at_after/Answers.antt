@@ -1,6 +1,6 @@
 use Rattle.std.proofs.Common.{sym, subst}
 use Rattle.tow_model.specs.Symbols.{symbol_of}
-use Rattle.tow_parse.specs.declared.call.WrittenParameters.TheVariants as written
+use Rattle.tow_fit.specs.declared.call.WrittenParameters.TheVariants as written
 use Rattle.tow_parse.specs.declared.goal.Phase.TheVariants as phases
 use Rattle.tow_parse.specs.declared.goal.Slot.TheVariants as slots
 use Rattle.tow_parse.specs.declared.look.Look.TheVariants as looks

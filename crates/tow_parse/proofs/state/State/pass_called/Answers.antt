@@ -1,7 +1,7 @@
 use Rattle.std.proofs.Common.{rules, sym, ◌∙◌, ap, subst, ◌≡◌, true, false, [], ◌∷◌}
 use Rattle.tow_parse.specs.declared.goal.Goal.TheVariants.{Joined, Target, Else, Called}
 use Rattle.tow_parse.specs.declared.part.Part.TheVariants as parts
-use Rattle.tow_parse.specs.Calls.{call_of}
+use Rattle.tow_fit.specs.Calls.{call_of}
 use Rattle.tow_parse.specs.Looks.{joins}
 use Rattle.tow_parse.specs.Moves.{Passes}
 use Rattle.tow_parse.specs.Parts.{a_test, a_handler}

@@ -1,0 +1,10 @@
+pub mod Arrays
+pub mod Cutting
+pub mod Digits
+pub mod Fields
+pub mod Fits
+pub mod Parameters
+pub mod Segments
+pub mod Slashes
+pub mod Taking
+pub mod Templates

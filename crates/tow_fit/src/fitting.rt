@@ -1,0 +1,104 @@
+//! What a call stands for by the tables of predicates and handlers.
+
+ghost use Rattle.std.specs.Prelude.{◌≡◌, ◌&&◌, Ok, IfOk, IfErr, nat_le};
+ghost use Rattle.tow_model.specs.Fit as fits;
+ghost use Rattle.tow_fit.specs.Calls.{call_of, counts_of, parameters_of};
+ghost use Rattle.tow_fit.specs.Faults.{Fails};
+ghost use Rattle.tow_fit.specs.Making.{action_in, test_in};
+
+mod acted;
+mod fields;
+mod givens;
+mod made;
+mod names;
+mod numbers;
+mod parameters;
+mod paths;
+mod segments;
+mod table;
+mod templates;
+mod texts;
+mod unnamed;
+mod values;
+
+use crate::call::{Call, WrittenParameters};
+use crate::counts::Counts;
+use crate::fault::ParseFault;
+use crate::fitting::acted::made_action;
+use crate::fitting::givens::givens_of;
+use crate::fitting::made::made_test;
+use crate::fitting::names::{handler_named, test_named};
+use crate::fitting::table::{handler_rows, test_rows};
+use std::alloc::Global;
+use tow_model::{Action, Handler, Test, TestName};
+
+/// How many limits a text has at most.
+const MOST_LIMITS: u32 = 16;
+
+/// The test that a call stands for by the table of predicates. Takes memory for its texts.
+pub fn fitted_test(alloc: Global, call: Call, counts: &mut Counts) -> Result<Test, ParseFault>
+    ensures ok { IfOk result (λ t. fits.fit_test (call_of call) (counts_of counts.old) ≡ Ok (t, counts_of counts.new)) }
+    ensures err { IfErr result (λ e. Fails e (fits.fit_test (call_of call) (counts_of counts.old))) }
+{
+    let Call { name, parameters } = call;
+    match test_named(name.bytes.as_slice()) {
+        Some(test) => test_of(alloc, test, name.place, parameters, counts),
+        None => Err(ParseFault::UnknownName(name.place)),
+    }
+}
+
+fn test_of(
+    alloc: Global,
+    test: TestName,
+    place: usize,
+    parameters: WrittenParameters,
+    counts: &mut Counts,
+) -> Result<Test, ParseFault>
+    ensures ok { IfOk result (λ t. test_in test place (parameters_of parameters) (counts_of counts.old) ≡ Ok (t, counts_of counts.new)) }
+    ensures err { IfErr result (λ e. Fails e (test_in test place (parameters_of parameters) (counts_of counts.old))) }
+{
+    let givens = givens_of(alloc, test_rows(test), place, parameters)?;
+    made_test(test, givens, counts)
+}
+
+/// The action that a call stands for by the table of handlers. Takes memory for its texts.
+pub fn fitted_action(alloc: Global, call: Call, counts: &mut Counts) -> Result<Action, ParseFault>
+    ensures ok { IfOk result (λ a. fits.fit_action (call_of call) (counts_of counts.old) ≡ Ok (a, counts_of counts.new)) }
+    ensures err { IfErr result (λ e. Fails e (fits.fit_action (call_of call) (counts_of counts.old))) }
+{
+    let Call { name, parameters } = call;
+    match handler_named(name.bytes.as_slice()) {
+        Some(handler) => action_of(alloc, handler, name.place, parameters, counts),
+        None => Err(ParseFault::UnknownName(name.place)),
+    }
+}
+
+fn action_of(
+    alloc: Global,
+    handler: Handler,
+    place: usize,
+    parameters: WrittenParameters,
+    counts: &mut Counts,
+) -> Result<Action, ParseFault>
+    ensures ok { IfOk result (λ a. action_in handler place (parameters_of parameters) (counts_of counts.old) ≡ Ok (a, counts_of counts.new)) }
+    ensures err { IfErr result (λ e. Fails e (action_in handler place (parameters_of parameters) (counts_of counts.old))) }
+{
+    let givens = givens_of(alloc, handler_rows(handler), place, parameters)?;
+    if is_full(handler, counts) {
+        return Err(ParseFault::TooManyLimits(place));
+    }
+    made_action(handler, givens, counts)
+}
+
+/// Whether the handler is a limit, and there are as many as there may be.
+fn is_full(handler: Handler, counts: &Counts) -> bool
+    ensures { result ≡ (fits.is_limit handler && nat_le 16 counts.now.limits) }
+{
+    is_limit(handler) && counts.limits >= MOST_LIMITS
+}
+
+fn is_limit(handler: Handler) -> bool
+    ensures { result ≡ fits.is_limit handler }
+{
+    matches!(handler, Handler::RequestLimit)
+}

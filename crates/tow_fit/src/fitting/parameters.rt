@@ -1,0 +1,120 @@
+//! The parameters of a call, in the order in which they are written.
+
+ghost use Rattle.std.specs.Prelude.{◌≡◌, [], None, Some, bytes_eq, find, if◌then◌else◌, map, option_map};
+ghost use Rattle.std.specs.List.{list_any};
+ghost use Rattle.tow_model.specs.Fit as fits;
+ghost use Rattle.tow_model.specs.Table as table;
+ghost use Rattle.tow_fit.specs.Calls.{pair_of, parameters_of, value_of};
+ghost use Rattle.tow_fit.specs.Fitting.{MeetsBy, found_as, found_in, next_found, parameter_of, rows_of};
+
+use crate::call::{WrittenPair, WrittenParameters};
+use crate::fault::ParseFault;
+use crate::fitting::names::is_name;
+use crate::fitting::table::{Row, Rows};
+use crate::fitting::unnamed::found_first;
+use crate::fitting::values::given_of;
+use std::alloc::Global;
+use tow_model::{Given, List};
+
+/// A parameter that is written, and what it stands for.
+#[derive(Debug, Drop)]
+pub(crate) struct Found {
+    pub(crate) row: Row,
+    pub(crate) given: Given,
+}
+
+/// What the parameters of a call stand for that are written. Takes memory for them.
+pub(crate) fn found_in(
+    alloc: Global,
+    rows: Rows,
+    parameters: WrittenParameters,
+) -> Result<List<Found>, ParseFault>
+    ensures { MeetsBy (map found_as) result (found_in (rows_of rows) (parameters_of parameters)) }
+{
+    match parameters {
+        WrittenParameters::Named(pairs) => found_of(alloc, rows, pairs),
+        WrittenParameters::Unnamed(values) => found_first(alloc, rows, values),
+    }
+}
+
+/// What the parameters with these names stand for.
+fn found_of(alloc: Global, rows: Rows, pairs: List<WrittenPair>) -> Result<List<Found>, ParseFault>
+    ensures { MeetsBy (map found_as) result (fits.found_of (rows_of rows) [] (map pair_of pairs)) }
+{
+    let mut found = List::new(alloc);
+    for pair in pairs.into_vec() {
+        let next = next_found(alloc, rows, found.as_slice(), pair)?;
+        found.push(next)?;
+    }
+    Ok(found)
+}
+
+/// What one more parameter stands for, behind those that were found.
+fn next_found(
+    alloc: Global,
+    rows: Rows,
+    found: &[Found],
+    pair: WrittenPair,
+) -> Result<Found, ParseFault>
+    ensures { MeetsBy found_as result (next_found (rows_of rows) (map found_as found.now) (pair_of pair)) }
+{
+    let WrittenPair { name, value } = pair;
+    match unused(rows, found, name.bytes.as_slice()) {
+        Some(row) => {
+            let given = given_of(alloc, row.shape, value)?;
+            Ok(Found { row, given })
+        }
+        None => Err(ParseFault::BadParameter(name.place)),
+    }
+}
+
+/// The parameter of this name, unless it was found before.
+fn unused(rows: Rows, found: &[Found], name: &[u8]) -> Option<Row>
+    ensures { option_map parameter_of result ≡ fits.unused (rows_of rows) (map found_as found.now) name.now }
+{
+    if is_found(found, name) {
+        None
+    } else {
+        row_named(rows, name)
+    }
+}
+
+fn is_found(found: &[Found], name: &[u8]) -> bool
+    ensures { result ≡ list_any (λ f. bytes_eq name.now f.row.name.now) found.now }
+{
+    found.iter().any(|found| is_name(name, found.row.name))
+}
+
+/// The first parameter of this name.
+fn row_named(rows: Rows, name: &[u8]) -> Option<Row>
+    ensures { option_map parameter_of result ≡ find (λ (q : table.Parameter). bytes_eq q.name name.now) (rows_of rows) }
+{
+    match rows {
+        Rows::None => None,
+        Rows::One(a) => a.named(name),
+        Rows::Two(a, b) => match a.named(name) {
+            Some(a) => Some(a),
+            None => b.named(name),
+        },
+        Rows::Three(a, b, c) => match a.named(name) {
+            Some(a) => Some(a),
+            None => match b.named(name) {
+                Some(b) => Some(b),
+                None => c.named(name),
+            },
+        },
+    }
+}
+
+impl Row {
+    /// This parameter, where it has the name.
+    fn named(self, name: &[u8]) -> Option<Row>
+        ensures { option_map parameter_of result ≡ (if bytes_eq self.name.now name.now then Some (parameter_of self) else None) }
+    {
+        if is_name(self.name, name) {
+            Some(self)
+        } else {
+            None
+        }
+    }
+}

@@ -1,6 +1,0 @@
-use Rattle.std.proofs.Common.{◌≡◌, ◌++◌, take}
-use Rattle.tow_model.specs.Printed.{print_of}
-use Rattle.tow_parse.proofs.printer.statements.put_tree.Given as goal
-
-abbrev pub invariant-loop-statement : goal.invariant-loop-statement
-invariant-loop-statement l = l.text.items ≡ l.initial.text.items ++ print_of (take l.statement-index l.tree)

@@ -1,7 +1,0 @@
-use Rattle.std.proofs.Common.{◌≡◌, ◌++◌, take}
-use Rattle.tow_model.specs.Templates.{spelled_template}
-use Rattle.tow_parse.specs.PrintWords.{bytes_in}
-use Rattle.tow_parse.proofs.printer.templates.put_pieces.Given as goal
-
-abbrev pub invariant-loop-piece : goal.invariant-loop-piece
-invariant-loop-piece l = l.text.items ≡ l.initial.text.items ++ bytes_in l.style (spelled_template (take l.piece-index l.template))

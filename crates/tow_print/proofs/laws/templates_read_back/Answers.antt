@@ -1,0 +1,5 @@
+use Rattle.tow_print.proofs.PrintTemplates.{template_again}
+use Rattle.tow_print.proofs.laws.templates_read_back.Goals as goal
+
+pub returns : goal.returns
+returns c = template_again

@@ -1,0 +1,6 @@
+use Rattle.std.proofs.Common.{◌≡◌, ◌++◌, take, flat_map, codes}
+use Rattle.tow_model.specs.Printed.{printed_prefix}
+use Rattle.tow_print.proofs.printer.texts.put_more_prefixes.Given as goal
+
+abbrev pub invariant-loop-one : goal.invariant-loop-one
+invariant-loop-one l = l.text.items ≡ l.initial.text.items ++ flat_map (λ t. codes ", " ++ printed_prefix t) (take l.one-index l.prefixes)

@@ -1,0 +1,12 @@
+use Rattle.std.proofs.Common.{arith, codes, map, flat_map, drop, ◌≡◌, ◌++◌}
+use Rattle.std.proofs.lemmas.Grind.{common_steps}
+use Rattle.tow_model.specs.Printed.{printed_text, joined_by}
+use Rattle.tow_print.proofs.PrintWords.{row_is}
+use Rattle.tow_print.proofs.printer.texts.put_texts.Goals as goal
+
+pub returns : goal.returns
+returns c =
+    let xs = c.args.texts.now in
+    let e : joined_by (codes ", ") (map printed_text xs) ≡ printed_text c.first-item.result ++ flat_map (λ t. codes ", " ++ printed_text t) (drop 1 xs) =
+    row_is (codes ", ") printed_text c.first-item.result xs (omega (arith, c.in-len1-up.len_at_least)) c.first-item.is in
+    rw e (grind (arith, common_steps))

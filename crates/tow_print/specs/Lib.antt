@@ -1,0 +1,2 @@
+pub mod PrintParts
+pub mod PrintWords
