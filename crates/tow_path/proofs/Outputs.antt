@@ -10,7 +10,7 @@ use Rattle.std.proofs.Math.Seq.{drop-cons}
 use Rattle.std.specs.List.{flat_map, list_any, onto_first}
 use Rattle.tow_model.specs.Texts.{Text, begins_with, cut_at, but_last}
 use Rattle.tow_model.specs.Paths.{slash, is_dot, is_dots, with_segment, left_behind, resolved_relative, resolved}
-use Rattle.tow_model.proofs.Resolving.{Each, Plain, neither, segments_stay, no_dots, plain_resolved, resolved_twice}
+use Rattle.tow_model.proofs.Resolving.{Each, Plain, neither, each_append, each_take, add_byte, cut_smooth, segments_stay, no_dots, plain_resolved, resolved_twice}
 use Rattle.tow_path.specs.Output.{has_slash, before_last_slash, put_segment, has_dot_segment}
 
 -- a segment
@@ -82,16 +82,6 @@ put_is stay s p =
     choose (is_dot s) (is_dots s) (path_abempty stay) (before_last_slash (path_abempty stay)) (path_abempty stay ++ slash ∷ s) stay (but_last stay) (stay ++ s ∷ []) refl (dots_off stay p)
     (ap (λ k. path_abempty stay ++ slash ∷ k) (sym (append-nil s)) ∙ sym (abempty_append stay (s ∷ [])))
 
-each_append : (a b : List Text) → Each Smooth a → Each Smooth b → Each Smooth (a ++ b)
-each_append [] b p q = q
-each_append (s ∷ a) b p q = (p.0, each_append a b p.1 q)
-
-each_take : (n : ℕ) (a : List Text) → Each Smooth a → Each Smooth (take n a)
-each_take zero [] p = tt
-each_take zero (s ∷ a) p = tt
-each_take (suc n) [] p = tt
-each_take (suc n) (s ∷ a) p = (p.0, each_take n a p.1)
-
 one_holds : (a b : Bool) (X Y Z : List Text) → Each Smooth X → Each Smooth Y → Each Smooth Z → Each Smooth (if a then X else (if b then Y else Z))
 one_holds true b X Y Z p q r = p
 one_holds false true X Y Z p q r = q
@@ -102,22 +92,9 @@ all_put stay [] p q = refl
 all_put stay (s ∷ segments) p q =
     ap (λ k. fold put_segment k segments) (put_is stay s p)
     ∙ all_put (with_segment stay s) segments
-    (one_holds (is_dot s) (is_dots s) stay (but_last stay) (stay ++ s ∷ []) p (each_take _ stay p) (each_append stay (s ∷ []) p (q.0, tt))) q.1
+    (one_holds (is_dot s) (is_dots s) stay (but_last stay) (stay ++ s ∷ []) p (each_take Smooth _ stay p) (each_append Smooth stay (s ∷ []) p (q.0, tt))) q.1
 
 -- ALL SEGMENTS
-
--- a byte stands before the pieces of a cut text, and ends the first piece or belongs to it
-abbrev add_byte : Bool → ℕ → List Text → List Text
-add_byte x b pieces = cond x ([] ∷ pieces) (onto_first b pieces)
-
-piece_smooth : (x : Bool) (b : ℕ) (pieces : List Text) → (b == slash) ≡ x → Each Smooth pieces → Each Smooth (add_byte x b pieces)
-piece_smooth true b pieces is p = (refl, p)
-piece_smooth false b [] is p = (rw is refl, tt)
-piece_smooth false b (s ∷ pieces) is p = (rw (is, p.0) refl, p.1)
-
-cut_smooth : (t : Text) → Each Smooth (cut_at slash t)
-cut_smooth [] = (refl, tt)
-cut_smooth (b ∷ t) = piece_smooth (b == slash) b (cut_at slash t) refl (cut_smooth t)
 
 same_byte : (b : ℕ) → (b == slash) ≡ true → slash ≡ b
 same_byte b is = grind (arith, nat_tests)

@@ -6,6 +6,7 @@ use Rattle.std.proofs.lemmas.Iterator.Splits.{YieldsList-from_slice_split}
 use Rattle.std.proofs.lemmas.List.{take-append-drop}
 use Rattle.std.specs.Fn.{CalledAt}
 use Rattle.std.specs.Iterator.{Yields}
+use Rattle.std.specs.List.{slice_split}
 use Rattle.std.specs.Slice.Iter as slice
 use denote.Param.Members.{Mut}
 use denote.Ref.{Bor}
@@ -30,9 +31,9 @@ segment_comes {g = g} text s begun rest done closure same yielded t so_far r u s
     let turn = YieldsList-turn all yielded t came r u segment is step in
     next_piece (cut_at slash text) (map (λ x. x.now) yielded) (length yielded) segment.now (YieldsList-so_far all yielded t came) turn.0 turn.1
 
--- where no segment comes, all have come
-pub all_came : {F : Type 0} {g : Mut F (Bor ℕ × Unit {0}) Bool} {f : F} (text : Text) (s begun : _) → slice.split_rest s ≡ text → slice.split_done s ≡ false → slice.split_callee s ≡ f → begun ≡ s
+-- where no piece comes of a text that is cut where the test holds, all have come
+pub all_came : (test : ℕ → Bool) {F : Type 0} {g : Mut F (Bor ℕ × Unit {0}) Bool} {f : F} (text : Text) (s begun : _) → slice.split_rest s ≡ text → slice.split_done s ≡ false → slice.split_callee s ≡ f → begun ≡ s
     → (yielded : List (Bor Text)) (t : _) → Yields (slice.split_steps g) begun yielded t → (r : Option (Bor Text)) (u : _) → r ≡ None → slice.split_steps g t r u
-    → FindsSlashes g f → map (λ x. x.now) yielded ≡ cut_at slash text
-all_came {g = g} text s begun rest done closure same yielded t so_far r u is step finds =
-    (YieldsList-end (YieldsList-from_slice_split g (λ b. b == slash) text rest done closure finds) yielded t (subst (λ z. Yields (slice.split_steps g) z yielded t) same so_far) r u is step).0
+    → ((x : ℕ) (b : Bool) (q : F) → CalledAt g f x b q → (q ≡ f) × (b ≡ test x)) → map (λ x. x.now) yielded ≡ slice_split test text
+all_came test {g = g} text s begun rest done closure same yielded t so_far r u is step finds =
+    (YieldsList-end (YieldsList-from_slice_split g test text rest done closure finds) yielded t (subst (λ z. Yields (slice.split_steps g) z yielded t) same so_far) r u is step).0

@@ -1,4 +1,5 @@
-use Rattle.std.proofs.Common.{rules, tests, ap, ◌∙◌, map}
+use Rattle.std.proofs.Common.{rules, tests, ap, ◌∙◌, ◌==◌, map}
+use Rattle.tow_model.specs.Paths.{slash}
 use Rattle.tow_path.proofs.Outputs.{PutOut, dots_last, name_last, output_grows, left_grows}
 use Rattle.tow_path.proofs.Pieces.{all_came}
 use Rattle.tow_path.proofs.resolving.resolved_segments.Goals as goal
@@ -15,7 +16,7 @@ loop-segment-preserved c = record {
 pub returns : goal.returns
 returns c =
     let path = c.args.path.now in let kept = c.loop-segment.output.items in
-    let all = all_came path c.split-segment-items.result c.into_iter-segment-iterator.result c.split-segment-items.ensures.rest c.split-segment-items.ensures.done c.split-segment-items.ensures.closure
+    let all = all_came (λ b. b == slash) path c.split-segment-items.result c.into_iter-segment-iterator.result c.split-segment-items.ensures.rest c.split-segment-items.ensures.done c.split-segment-items.ensures.closure
     c.into_iter-segment-iterator.ensures.into_iter_gives c.loop-segment.yielded c.loop-segment.segment-iterator c.loop-segment.yielded_by c.next.result c.next.new.self c.in-None.is c.next.ensures.steps (λ x r q k. search (rules, tests)) in
     let put : PutOut path kept c.loop-segment.ends_in_dots (map (λ x. x.now) c.loop-segment.yielded) = record { output = c.loop-segment.invariant.output; left = c.loop-segment.invariant.left; all = all } in
     elim c.if-ends_in_dots.branch [

@@ -1,4 +1,4 @@
-use Rattle.std.proofs.Common.{rules, tests, sym, ◌∙◌, drop, length, suc}
+use Rattle.std.proofs.Common.{rules, tests, sym, ◌∙◌, ◌==◌, drop, length, suc}
 use Rattle.std.proofs.lemmas.List.{nil_from_length}
 use Rattle.tow_model.specs.Texts.{cut_at}
 use Rattle.tow_model.specs.Paths.{slash}
@@ -25,7 +25,7 @@ returns-then-not-meets c =
 pub returns-then-is_empty : goal.returns-then-is_empty
 returns-then-is_empty c =
     let value = c.args.value.now in
-    let all = all_came value c.split-segment-items.result c.into_iter-segment-iterator.result c.split-segment-items.ensures.rest c.split-segment-items.ensures.done c.split-segment-items.ensures.closure
+    let all = all_came (λ b. b == slash) value c.split-segment-items.result c.into_iter-segment-iterator.result c.split-segment-items.ensures.rest c.split-segment-items.ensures.done c.split-segment-items.ensures.closure
     c.into_iter-segment-iterator.ensures.into_iter_gives c.loop-segment.yielded c.loop-segment.segment-iterator c.loop-segment.yielded_by c.next.result c.next.new.self c.in-None.is c.next.ensures.steps (λ x r q k. search (rules, tests)) in
     all_met c.args.parts.now c.loop-segment.yielded c.loop-segment.left.now c.loop-segment.fields (cut_at slash value) c.loop-segment.invariant.goes all
     (is_nothing c.loop-segment.left.now c.is_empty.result c.is_empty.ensures c.if-is_empty.true)
@@ -33,7 +33,7 @@ returns-then-is_empty c =
 pub returns-else-is_empty : goal.returns-else-is_empty
 returns-else-is_empty c =
     let value = c.args.value.now in
-    let all = all_came value c.split-segment-items.result c.into_iter-segment-iterator.result c.split-segment-items.ensures.rest c.split-segment-items.ensures.done c.split-segment-items.ensures.closure
+    let all = all_came (λ b. b == slash) value c.split-segment-items.result c.into_iter-segment-iterator.result c.split-segment-items.ensures.rest c.split-segment-items.ensures.done c.split-segment-items.ensures.closure
     c.into_iter-segment-iterator.ensures.into_iter_gives c.loop-segment.yielded c.loop-segment.segment-iterator c.loop-segment.yielded_by c.next.result c.next.new.self c.in-None.is c.next.ensures.steps (λ x r q k. search (rules, tests)) in
     too_short c.args.parts.now c.loop-segment.yielded c.loop-segment.left.now c.loop-segment.fields (cut_at slash value) c.loop-segment.invariant.goes all
     (is_something c.loop-segment.left.now c.is_empty.result c.is_empty.ensures c.if-is_empty.false)

@@ -1,0 +1,4 @@
+pub mod Built
+pub mod Faults
+pub mod Found
+pub mod Numbering
