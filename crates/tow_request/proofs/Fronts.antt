@@ -7,7 +7,7 @@ use Rattle.httparse.specs.declared.spans.HeaderSpan.{HeaderSpan}
 use Rattle.httparse.specs.declared.spans.RequestSpans.{RequestSpans}
 use Rattle.httparse.proofs.GrammarLemmas.{ReadsRequest-append}
 use Rattle.tow_model.specs.declared.request.Request.{Request}
-use Rattle.tow_model.specs.Heads.{HasHead, HasNoHead, refusal, request_of}
+use Rattle.tow_model.specs.Heads.{HasHead, HasNoHead, IsRefusedBy, refusal, request_of}
 use Rattle.tow_model.proofs.FirstHeads.{head_is_one}
 use Rattle.tow_request.specs.declared.NextHead.{NextHead}
 use Rattle.tow_request.specs.declared.NextHead.TheVariants.{Head}
@@ -57,6 +57,16 @@ whole_head input headers r h small room within at =
 
 some_is_none : (o : Option ℕ) (status : ℕ) → o ≡ Some status → o ≡ None → ⊥
 some_is_none o status a b = absurd (cc)
+
+-- a refused head is at the front of the whole input
+pub tells_refused : (input : List ℕ) (used : ℕ) (h : RequestHead) (status : ℕ) → HasHead (take used input) h [] → refusal h ≡ Some status
+    → IsRefusedBy refusal input status
+tells_refused input used h status has wrong = record {
+  head = h;
+  rest = drop used input;
+  reads = front_has input used h has;
+  refused = wrong;
+}
 
 -- a refused head is the only one
 pub finds_refused : (input : List ℕ) (used : ℕ) (h : RequestHead) (status peer : ℕ) (answer : NextHead)

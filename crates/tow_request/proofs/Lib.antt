@@ -1,3 +1,8 @@
-mod Fronts
+mod Blanks
+mod Deciding
+pub mod Fronts
+mod Lengths
+mod Listing
+mod Refusing
 mod Spans
-pub mod Served
+mod Summing

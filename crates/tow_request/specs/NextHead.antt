@@ -3,8 +3,8 @@ use Rattle.std.specs.Prelude.{◌≡◌, ℕ, ◌<◌, ◌≤◌, ◌⊎◌, Boo
 use Rattle.httparse.specs.Grammar.{MayBecomeRequest, NeverHasRequest}
 use Rattle.httparse.specs.Spans.{RequestExceeds}
 use Rattle.tow_model.specs.declared.request.Request.{Request}
-use Rattle.tow_model.specs.Heads.{Head as IsHead, HasNoHead}
-use Rattle.tow_model.specs.Stream.{IsBlank, IsNoRequest, IsRefused}
+use Rattle.tow_model.specs.Heads.{Head as IsHead, HasNoHead, IsRefusedBy, refusal}
+use Rattle.tow_model.specs.Stream.{IsBlank, IsNoRequest}
 use Rattle.tow_request.specs.declared.NextHead.{NextHead}
 use Rattle.tow_request.specs.declared.NextHead.TheVariants.{Head, Partial, Nothing, Refuse, NoMemory}
 
@@ -22,7 +22,7 @@ Tells bytes ended peer (Head q used) = (used ≤ length bytes) × IsHead (take u
 Tells bytes ended peer Partial = IsFalse ended × (length bytes < 65536) × HasNoHead bytes × MayGoOn bytes
 Tells bytes ended peer Nothing = IsTrue ended × IsBlank bytes
 Tells bytes ended peer (Refuse status) =
-    IsRefused bytes status ⊎ ((status ≡ 400) × IsNoRequest bytes × IsHopeless bytes ended)
+    IsRefusedBy refusal bytes status ⊎ ((status ≡ 400) × IsNoRequest bytes × IsHopeless bytes ended)
 Tells bytes ended peer NoMemory = Unit {0}
 
 -- where a front of the bytes is a head that is served, it is the answer

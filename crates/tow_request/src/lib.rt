@@ -1,12 +1,18 @@
-//! Reads the head of a request at the front of an input (RFC 9112, sections 2 and 3), by the grammar of `httparse`: which
-//! bytes are a head, which heads are refused with which status, and which request a served head is.
+//! Reads the head of a request at the front of an input (RFC 9112, sections 2, 3 and 6), by the grammar of `httparse`: which
+//! bytes are a head, which heads are refused with which status, and which request a served head is. `look` finds the head,
+//! `refusals` tests it where it stands, and `requests` makes its request; `fields`, `elements`, `codings` and `framing` read
+//! its field lines.
 #![tactic(auto)]
 
+mod codings;
+mod elements;
 mod fields;
+mod framing;
+#[cfg(test)]
+mod head_tests;
 mod look;
 mod refusals;
 mod requests;
-mod targets;
 #[cfg(test)]
 mod tests;
 

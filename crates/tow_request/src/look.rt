@@ -7,11 +7,12 @@ ghost use Rattle.tow_model.specs.Stream.{IsBlank, IsNoRequest};
 ghost use Rattle.tow_request.specs.NextHead.{FindsHead, Tells};
 
 use crate::NextHead;
-use crate::refusals::status_of;
-use crate::requests::copied_request;
+use crate::refusals::{is_coded, is_wrong};
+use crate::requests::{Place, copied_request};
 use httparse::spans::{EMPTY_HEADER_SPAN, HeaderSpan, RequestSpans, parse_request};
 use httparse::{Error, Status};
 use std::alloc::Global;
+use tow_path::{Target3986, read_target};
 
 /// How many bytes a head takes at most.
 const MOST_BYTES: usize = 65536;
@@ -20,7 +21,8 @@ const MOST_BYTES: usize = 65536;
 const MOST_LINES: usize = 200;
 
 /// Looks for a head at the front of an input, of which `bytes` have come; `ended` says that there are no more.
-/// Takes memory for what the request keeps.
+/// Takes memory for what the request keeps. A head that is refused takes none, but for the parts of its target where a coding
+/// stands before `chunked`.
 pub fn next_head(alloc: Global, bytes: &[u8], ended: bool, peer: u32) -> NextHead
     requires { length bytes.now ≤ 65536 }
     ensures tells { Tells bytes.now ended peer result }
@@ -66,12 +68,23 @@ fn look_at(
     ensures tells { (ended : Bool) → Tells bytes.now ended peer result }
     ensures found { FindsHead bytes.now peer result }
 {
-    match status_of(bytes, headers, head) {
-        Some(status) => NextHead::Refuse(status),
-        None => match copied_request(alloc, bytes, headers, head, peer) {
-            Ok(request) => NextHead::Head(request, head.len),
-            Err(_) => NextHead::NoMemory,
-        },
+    let lines = &headers[..head.headers];
+    if is_wrong(bytes, lines, head.version) {
+        return NextHead::Refuse(400);
+    }
+    match read_target(alloc, head.method.of(bytes), head.path.of(bytes)) {
+        Target3986::Parts { url, path, query } => {
+            if is_coded(bytes, lines) {
+                return NextHead::Refuse(501);
+            }
+            let place = Place { url, path, query };
+            match copied_request(alloc, bytes, headers, head, place, peer) {
+                Ok(request) => NextHead::Head(request, head.len),
+                Err(_) => NextHead::NoMemory,
+            }
+        }
+        Target3986::Bad => NextHead::Refuse(400),
+        Target3986::NoMemory => NextHead::NoMemory,
     }
 }
 

@@ -1,4 +1,4 @@
-//! Heads written by hand, and what a look at them finds.
+//! Fronts of an input written by hand, and what a look at them finds.
 
 ghost use Rattle.std.specs.Prelude.{◌≤◌, length};
 
@@ -6,7 +6,6 @@ use crate::{NextHead, next_head};
 use std::alloc::{AllocError, Global};
 use std::process::Abort;
 use std::test::Fail;
-use tow_model::{Framing, Version};
 
 /// The address 127.0.0.1.
 const PEER: u32 = 2130706433;
@@ -107,65 +106,6 @@ fn fronts_are_told_apart(rt: HostRuntime) {
 }
 
 #[test]
-fn wrong_heads_are_refused(rt: HostRuntime) {
-    let wrong = [
-        "GET /hi HTTP/1.1\r\n\r\n",
-        "GET /hi HTTP/1.1\r\nHost: a\r\nhost: a\r\n\r\n",
-        "GET /hi HTTP/1.0\r\nHost: a\r\nHost: b\r\n\r\n",
-        "GET /hi HTTP/1.1\r\nConnection: close\r\n\r\n",
-        "GET a HTTP/1.1\r\nHost: a\r\n\r\n",
-        "GET a HTTP/1.0\r\n\r\n",
-        "GET * HTTP/1.1\r\nHost: a\r\n\r\n",
-        "GET http:///a HTTP/1.1\r\nHost: a\r\n\r\n",
-        "GET http://?a HTTP/1.1\r\nHost: a\r\n\r\n",
-        "GET https:// HTTP/1.1\r\nHost: a\r\n\r\n",
-    ];
-    expect_answers(
-        &rt,
-        rt.alloc(),
-        &wrong,
-        Told::Refuse(400),
-        Told::Refuse(400),
-    );
-}
-
-#[test]
-fn later_heads_are_refused(rt: HostRuntime) {
-    let later = [
-        "GET /hi HTTP/1.0\r\n\r\n",
-        "GET /hi HTTP/1.1\r\nHost: a\r\ncontent-length: 0\r\n\r\n",
-        "GET /hi HTTP/1.1\r\nHost: a\r\nTransfer-Encoding: chunked\r\n\r\n",
-        "GET /hi HTTP/1.1\r\nCONNECTION: keep-alive\r\nHost: a\r\n\r\n",
-        "GET /hi HTTP/1.1\r\nHost: a\r\nExpect: 100-continue\r\n\r\n",
-        "OPTIONS * HTTP/1.1\r\nHost: a\r\n\r\n",
-        "GET http://h/a HTTP/1.1\r\nHost: a\r\n\r\n",
-        "GET HttpS://h HTTP/1.1\r\nHost: a\r\n\r\n",
-        "GET /a?b HTTP/1.1\r\nHost: a\r\n\r\n",
-        "GET /a%20b HTTP/1.1\r\nHost: a\r\n\r\n",
-        "GET /. HTTP/1.1\r\nHost: a\r\n\r\n",
-        "GET /a/../b HTTP/1.1\r\nHost: a\r\n\r\n",
-    ];
-    expect_answers(
-        &rt,
-        rt.alloc(),
-        &later,
-        Told::Refuse(501),
-        Told::Refuse(501),
-    );
-    let close_to_later = [
-        "GET /a/.../b HTTP/1.1\r\nHost: a\r\n\r\n",
-        "GET //.c/..b HTTP/1.1\r\nHost: a\r\n\r\n",
-    ];
-    expect_answers(
-        &rt,
-        rt.alloc(),
-        &close_to_later,
-        Told::Head(34),
-        Told::Head(34),
-    );
-}
-
-#[test]
 fn bounds_are_kept(rt: HostRuntime) -> Result<(), Fail> {
     let alloc = rt.alloc();
     let front = b"GET /hi HTTP/1.1\r\nHost: a\r\nA: ";
@@ -199,31 +139,5 @@ fn bounds_are_kept(rt: HostRuntime) -> Result<(), Fail> {
     expect_answer(&rt, alloc, &line_ends, Told::Refuse(400), Told::Refuse(400));
     let fewer = filled(alloc, b"", b'\n', b"", 65535)?;
     expect_answer(&rt, alloc, &fewer, Told::Partial, Told::Nothing);
-    Ok(())
-}
-
-#[test]
-fn a_request_has_the_parts_of_its_head(rt: HostRuntime) -> Result<(), Fail> {
-    let text =
-        b"\r\nPUT /a//b/ HTTP/1.1\r\nHost: a:80\r\nX-List:\t 1,  2 \t\r\nempty:   \r\n\r\nGET";
-    let NextHead::Head(request, used) = next_head(rt.alloc(), text, false, PEER) else {
-        return Err("there is a head".into());
-    };
-    assert_eq!(rt; used, 66);
-    assert_eq!(rt; request.method.as_slice(), b"PUT".as_slice());
-    assert_eq!(rt; request.target.as_slice(), b"/a//b/".as_slice());
-    assert_eq!(rt; request.version, Version::V11);
-    assert_eq!(rt; request.url.as_slice(), b"/a//b/".as_slice());
-    assert_eq!(rt; request.path.as_slice(), b"/a//b/".as_slice());
-    assert!(rt; request.query.is_none());
-    assert_eq!(rt; request.framing, Framing::Empty);
-    assert!(rt; request.keep && !request.expects);
-    assert_eq!(rt; request.peer, PEER);
-    let want = [("Host", "a:80"), ("X-List", "1,  2"), ("empty", "")];
-    assert_eq!(rt; request.fields.len(), want.len());
-    for (field, (name, value)) in request.fields.as_slice().iter().zip(want) {
-        assert_eq!(rt; field.name.as_slice(), name.as_bytes());
-        assert_eq!(rt; field.value.as_slice(), value.as_bytes());
-    }
     Ok(())
 }

@@ -1,5 +1,0 @@
-use Rattle.tow_request.proofs.Spans.{front_is}
-use Rattle.tow_request.proofs.targets.begins_in_any_case.Goals as goal
-
-pub returns-clause-value : goal.returns-clause-value
-returns-clause-value c = front_is c.args.text.now c.args.part.now c.eq_ignore_ascii_case.result c.eq_ignore_ascii_case.ensures.test
