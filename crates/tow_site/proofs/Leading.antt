@@ -1,8 +1,10 @@
 -- The walks over a text with their restarts.
 use Rattle.std.proofs.Common.{◌≡◌, ℕ, zero, suc, List, [], refl, ap, ◌∙◌}
 use Rattle.tow_model.specs.declared.record.Record.{Record}
+use Rattle.tow_model.specs.declared.request.Request.{Request}
 use Rattle.tow_model.specs.declared.statement.Statement.{Statement}
 use Rattle.tow_model.specs.Steps.{answered}
+use Rattle.tow_model.specs.Sites.{given}
 use Rattle.tow_model.specs.Plans.{Stand, moved, without_context}
 use Rattle.tow_model.specs.Walk.{Given, Notes, walk}
 use Rattle.tow_model.specs.Outcome.{Outcome, decided, after_walk, walks}
@@ -21,33 +23,42 @@ walks_is : (tree : List Statement) (left : ℕ) (g : Given) (s : Stand) (n : Not
 walks_is tree zero g s n = refl
 walks_is tree (suc left) g s n = refl
 
-pub leads_next : (tree : List Statement) (left : ℕ) (x y : Record) → WalksAll tree x Next y → Leads tree left x DefaultHandler y
-leads_next tree left x y w = record {
-  is = λ g b n. walks_is tree left g (at x b) n ∙ ap (after_walk g (again_of tree left g)) (w.is g b n);
-  same_fields = w.same_fields;
-}
+module _ (q : Request) (m : ℕ) where
+  pub leads_next : (tree : List Statement) (left : ℕ) (x y : Record) → WalksAll q m tree x Next y → Leads q m tree left x DefaultHandler y
+  leads_next tree left x y w = record {
+    is = λ files content b n.
+        let g = given files q m content in
+        walks_is tree left g (at x b) n ∙ ap (after_walk g (again_of tree left g)) (w.is files content b n);
+    same_fields = w.same_fields;
+  }
 
-pub leads_default : (tree : List Statement) (left : ℕ) (x y : Record) → WalksAll tree x ToDefault y → Leads tree left x DefaultHandler y
-leads_default tree left x y w = record {
-  is = λ g b n. walks_is tree left g (at x b) n ∙ ap (after_walk g (again_of tree left g)) (w.is g b n);
-  same_fields = w.same_fields;
-}
+  pub leads_default : (tree : List Statement) (left : ℕ) (x y : Record) → WalksAll q m tree x ToDefault y → Leads q m tree left x DefaultHandler y
+  leads_default tree left x y w = record {
+    is = λ files content b n.
+        let g = given files q m content in
+        walks_is tree left g (at x b) n ∙ ap (after_walk g (again_of tree left g)) (w.is files content b n);
+    same_fields = w.same_fields;
+  }
 
-pub leads_stopped : (tree : List Statement) (left : ℕ) (x y : Record) → WalksAll tree x Stopped y → Leads tree left x Text y
-leads_stopped tree left x y w = record {
-  is = λ g b n. walks_is tree left g (at x b) n ∙ ap (after_walk g (again_of tree left g)) (w.is g b n);
-  same_fields = w.same_fields;
-}
+  pub leads_stopped : (tree : List Statement) (left : ℕ) (x y : Record) → WalksAll q m tree x Stopped y → Leads q m tree left x Text y
+  leads_stopped tree left x y w = record {
+    is = λ files content b n.
+        let g = given files q m content in
+        walks_is tree left g (at x b) n ∙ ap (after_walk g (again_of tree left g)) (w.is files content b n);
+    same_fields = w.same_fields;
+  }
 
-pub leads_last : (tree : List Statement) (x y : Record) → WalksAll tree x Restarted y → Leads tree 0 x Text (answered 500 y)
-leads_last tree x y w = record {
-  is = λ g b n. ap (after_walk g (again_of tree 0 g)) (w.is g b n);
-  same_fields = w.same_fields;
-}
+  pub leads_last : (tree : List Statement) (x y : Record) → WalksAll q m tree x Restarted y → Leads q m tree 0 x Text (answered 500 y)
+  leads_last tree x y w = record {
+    is = λ files content b n. let g = given files q m content in ap (after_walk g (again_of tree 0 g)) (w.is files content b n);
+    same_fields = w.same_fields;
+  }
 
-pub leads_again : (tree : List Statement) (left : ℕ) (x y : Record) (who : Answerer) (z : Record) →
-    WalksAll tree x Restarted y → Leads tree left (record y { context = [] }) who z → Leads tree (suc left) x who z
-leads_again tree left x y who z w l = record {
-  is = λ g b n. ap (after_walk g (again_of tree (suc left) g)) (w.is g b n) ∙ l.is g b n;
-  same_fields = l.same_fields ∙ w.same_fields;
-}
+  pub leads_again : (tree : List Statement) (left : ℕ) (x y : Record) (who : Answerer) (z : Record) →
+      WalksAll q m tree x Restarted y → Leads q m tree left (record y { context = [] }) who z → Leads q m tree (suc left) x who z
+  leads_again tree left x y who z w l = record {
+    is = λ files content b n.
+        let g = given files q m content in
+        ap (after_walk g (again_of tree (suc left) g)) (w.is files content b n) ∙ l.is files content b n;
+    same_fields = l.same_fields ∙ w.same_fields;
+  }

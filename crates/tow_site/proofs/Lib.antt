@@ -1,7 +1,8 @@
 pub mod Building
-pub mod Holding
 pub mod Walking
 pub mod Leading
 pub mod Deciding
 pub mod Naming
+pub mod Numbering
+pub mod Faulting
 pub mod Sites

@@ -13,9 +13,9 @@ use Rattle.tow_model.specs.Sites.{walked_of, given}
 abbrev pub settled : Record → Ending
 settled x = record { state = x; entries = []; asked = false; waits = None }
 
--- Over the empty folder the text comes to this record for the request, whatever the moment, the content and the verdicts,
--- all of which are left.
-abbrev pub Decides : List Statement → Request → Record → Type 0
-Decides tree q x =
-    (moment : ℕ) (content : Option Content) (verdicts : List Verdict) →
+-- Over the empty folder the text comes to this record for the request at this moment, whatever the content and the
+-- verdicts, all of which are left.
+abbrev pub Decides : List Statement → Request → ℕ → Record → Type 0
+Decides tree q moment x =
+    (content : Option Content) (verdicts : List Verdict) →
     walked_of (outcome tree (given [] q moment content) verdicts) ≡ record { outcome = settled x; left = verdicts }

@@ -1,9 +1,8 @@
--- What the code's walk tells. Each fact holds whatever the walk is not given: the request behind the record, the moment,
--- the folder, the content, the verdicts, and whether only a worker may go on.
-use Rattle.std.specs.Prelude.{◌≡◌, ℕ, Bool, false, List, []}
+-- What the code's walk tells of a request at a moment. Each fact holds whatever the walk is not given: the folder, the
+-- content, the verdicts, and whether only a worker may go on.
+use Rattle.std.specs.Prelude.{◌≡◌, ℕ, Bool, false, List, [], Option}
 use Rattle.tow_model.specs.declared.action.Action.{Action}
-use Rattle.tow_model.specs.declared.predicate.Test.{Test}
-use Rattle.tow_model.specs.declared.predicate.Predicate.{Predicate}
+use Rattle.tow_model.specs.declared.content.Content.{Content}
 use Rattle.tow_model.specs.declared.record.Record.{Record}
 use Rattle.tow_model.specs.declared.request.Request.{Request}
 use Rattle.tow_model.specs.declared.statement.Statement.{Statement}
@@ -11,7 +10,8 @@ use Rattle.tow_model.specs.Effects.{effect_of}
 use Rattle.tow_model.specs.Outcome.{Outcome, decided, by_default, default_stand, walks}
 use Rattle.tow_model.specs.Pages.{page_of}
 use Rattle.tow_model.specs.Plans.{Stand, marked}
-use Rattle.tow_model.specs.Predicates.{test_of, held, holds_of}
+use Rattle.tow_model.specs.Files.{Files}
+use Rattle.tow_model.specs.Sites.{given}
 use Rattle.tow_model.specs.Walk.{Given, Notes, Answer, act_answer, walk_one, walk}
 use Rattle.tow_model.specs.Walk as model
 use Rattle.tow_site.specs.declared.outcomes.Answerer.{Answerer}
@@ -28,28 +28,22 @@ answer_of Stopped s n = model.Stopped s n
 answer_of ToDefault s n = model.ToDefault s n
 answer_of Restarted s n = model.Restarted s n
 
--- the test passes or not, and binds nothing
-pub record Passes (test : Test) (x : Record) (b : Bool) : Type 0 where
-  pub is : (q : Request) (m : ℕ) → held (test_of test q x m) x ≡ record { holds = b; state = x }
-
--- the predicate holds or not, and binds nothing
-pub record Holds (p : Predicate) (x : Record) (b : Bool) : Type 0 where
-  pub is : (q : Request) (m : ℕ) → holds_of p q x m ≡ record { holds = b; state = x }
-
 -- the action takes the record x to y, which has the same fields
 pub record Acts (a : Action) (x : Record) (end : Walked) (y : Record) : Type 0 where
   pub is : (g : Given) (b : Bool) (n : Notes) →
       act_answer g (effect_of a g.request x g.moment) (marked a (at x b)) n ≡ answer_of end (at y b) n
   pub same_fields : y.fields ≡ x.fields
 
--- the statement does
-pub record Walks (t : Statement) (x : Record) (end : Walked) (y : Record) : Type 0 where
-  pub is : (g : Given) (b : Bool) (n : Notes) → walk_one g t (at x b) n ≡ answer_of end (at y b) n
+-- for this request at this moment the statement does
+pub record Walks (q : Request) (m : ℕ) (t : Statement) (x : Record) (end : Walked) (y : Record) : Type 0 where
+  pub is : (files : Files) (content : Option Content) (b : Bool) (n : Notes) →
+      walk_one (given files q m content) t (at x b) n ≡ answer_of end (at y b) n
   pub same_fields : y.fields ≡ x.fields
 
 -- the statements do
-pub record WalksAll (ts : List Statement) (x : Record) (end : Walked) (y : Record) : Type 0 where
-  pub is : (g : Given) (b : Bool) (n : Notes) → walk g ts (at x b) n ≡ answer_of end (at y b) n
+pub record WalksAll (q : Request) (m : ℕ) (ts : List Statement) (x : Record) (end : Walked) (y : Record) : Type 0 where
+  pub is : (files : Files) (content : Option Content) (b : Bool) (n : Notes) →
+      walk (given files q m content) ts (at x b) n ≡ answer_of end (at y b) n
   pub same_fields : y.fields ≡ x.fields
 
 abbrev pub outcome_by : Answerer → Given → Stand → Notes → Outcome
@@ -57,8 +51,9 @@ outcome_by Text g s n = decided s n
 outcome_by DefaultHandler g s n = by_default g s n
 
 -- the walks over the text, with so many restarts left, take the record x to y
-pub record Leads (tree : List Statement) (left : ℕ) (x : Record) (who : Answerer) (y : Record) : Type 0 where
-  pub is : (g : Given) (b : Bool) (n : Notes) → walks g tree left (at x b) n ≡ outcome_by who g (at y b) n
+pub record Leads (q : Request) (m : ℕ) (tree : List Statement) (left : ℕ) (x : Record) (who : Answerer) (y : Record) : Type 0 where
+  pub is : (files : Files) (content : Option Content) (b : Bool) (n : Notes) →
+      walks (given files q m content) tree left (at x b) n ≡ outcome_by who (given files q m content) (at y b) n
   pub same_fields : y.fields ≡ x.fields
 
 -- over the empty folder the default handler takes the record x to y

@@ -2,10 +2,10 @@ ghost use Rattle.std.specs.Prelude.{◌≡◌};
 ghost use Rattle.std.specs.List.{list_all};
 ghost use Rattle.tow_site.specs.Built as built;
 
-use tow_model::{Action, Predicate, Statement, Test, Tree};
+use tow_model::{Action, Statement, Tree};
 
-/// Whether the walk of a tree is built: each of its tests is `true`, `false` or `path`, and each action answers, begins
-/// again or goes to the default handler. Takes no memory.
+/// Whether the walk of a tree is built: each of its actions answers, begins again or goes to the default handler. Takes no
+/// memory.
 pub fn is_built(tree: &Tree) -> bool
     ensures { result ≡ built.is_built tree.now }
 {
@@ -29,9 +29,8 @@ fn is_built_statement(statement: &Statement) -> bool
     ensures { result ≡ built.is_built_statement statement.now }
 {
     match statement {
-        Statement::When { test, yes, other } => {
-            is_built_predicate(test)
-                && is_built_statement(yes.get())
+        Statement::When { yes, other, .. } => {
+            is_built_statement(yes.get())
                 && match other {
                     Some(other) => is_built_statement(other.get()),
                     None => true,
@@ -40,27 +39,6 @@ fn is_built_statement(statement: &Statement) -> bool
         Statement::Act(action) => is_built_action(action),
         Statement::Block(parts) => are_built(parts.as_slice()),
     }
-}
-
-fn is_built_predicate(predicate: &Predicate) -> bool
-    ensures { result ≡ built.is_built_predicate predicate.now }
-{
-    match predicate {
-        Predicate::Is(test) => is_built_test(test),
-        Predicate::Not(negated) => is_built_predicate(negated.get()),
-        Predicate::And(left, right) => {
-            is_built_predicate(left.get()) && is_built_predicate(right.get())
-        }
-        Predicate::Or(left, right) => {
-            is_built_predicate(left.get()) && is_built_predicate(right.get())
-        }
-    }
-}
-
-fn is_built_test(test: &Test) -> bool
-    ensures { result ≡ built.is_built_test test.now }
-{
-    matches!(test, Test::True | Test::False | Test::Path(_))
 }
 
 fn is_built_action(action: &Action) -> bool

@@ -1,8 +1,9 @@
 //! Texts that compile, and texts with a fault of each kind but `TooLong`, with its line and column.
 
 use crate::{Fault, compile};
-use std::alloc::Global;
+use std::alloc::{AllocError, Global};
 use std::test::Fail;
+use tow_link::{KeyCounts, MemoryMaker, PackMaker};
 use tow_model::Kind;
 
 /// Texts, how many statements they have, and how many patterns.
@@ -104,7 +105,7 @@ const FIT: [(&[u8], Kind, u32, u32); 26] = [
 
 /// Whether the text has this fault.
 fn is_fault(alloc: Global, text: &[u8], wanted: Fault) -> bool {
-    match compile(alloc, text) {
+    match compile(alloc, text, &mut PackMaker::new()) {
         Ok(_) => false,
         Err(fault) => fault == wanted,
     }
@@ -112,7 +113,7 @@ fn is_fault(alloc: Global, text: &[u8], wanted: Fault) -> bool {
 
 /// Whether the text has so many statements and patterns.
 fn is_site(alloc: Global, text: &[u8], statements: u32, patterns: usize) -> bool {
-    match compile(alloc, text) {
+    match compile(alloc, text, &mut PackMaker::new()) {
         Ok(site) => { site.statements() == statements && site.patterns().len() == patterns }
         Err(_) => false,
     }
@@ -141,6 +142,51 @@ fn fit_faults_have_their_places(rt: HostRuntime) -> Result<(), Fail> {
     let alloc = rt.alloc();
     for (text, kind, line, column) in FIT {
         assert!(rt; is_fault(alloc, text, Fault::Text { kind, line, column }));
+    }
+    Ok(())
+}
+
+/// Texts with a pattern that is refused by a maker to which `large` is too large, with the line and column of the first
+/// such.
+const REFUSED: [(&[u8], Kind, u32, u32); 6] = [
+    (b"regex('(') -> done", Kind::BadPattern, 1, 7),
+    (b"regex(large) -> done", Kind::LargePattern, 1, 7),
+    (
+        b"regex(a) -> {\n not regex(pattern='a)') and regex('(') -> done }",
+        Kind::BadPattern,
+        2,
+        20,
+    ),
+    (
+        b"true -> done else regex(large) or regex('(') -> done",
+        Kind::LargePattern,
+        1,
+        25,
+    ),
+    (
+        b"regex('(') -> done\nregex(large) -> done",
+        Kind::BadPattern,
+        1,
+        7,
+    ),
+    (b"regex('(') -> done; nosuch", Kind::UnknownName, 1, 21),
+];
+
+/// The fault of a text under a maker to which `large` is too large.
+fn fault_of(alloc: Global, text: &[u8]) -> Result<Option<Fault>, AllocError> {
+    let mut larges = KeyCounts::new(alloc);
+    larges.begin(b"large".to_vec(alloc)?)?;
+    Ok(compile(alloc, text, &mut MemoryMaker::new(larges)).err())
+}
+
+#[test]
+fn patterns_that_are_refused_have_their_places(rt: HostRuntime) -> Result<(), Fail> {
+    let alloc = rt.alloc();
+    for (text, kind, line, column) in REFUSED {
+        assert_eq!(rt;
+            fault_of(alloc, text)?,
+            Some(Fault::Text { kind, line, column })
+        );
     }
     Ok(())
 }

@@ -1,6 +1,6 @@
 //! A site: a handlers text that compiles, and what it makes of a request. `compile` gives the site or the text's first
-//! fault. So far `outcome` walks a tree with the tests `true`, `false` and `path` and the actions that answer, begin again
-//! or go to the default handler, and the default handler is that over an empty folder.
+//! fault. So far `outcome` walks a tree with all tests and the actions that answer, begin again or go to the default handler,
+//! and the default handler is that over an empty folder.
 #![tactic(auto)]
 
 mod answer;
@@ -10,11 +10,8 @@ mod compile_tests;
 mod compiling;
 mod default;
 mod fault;
-mod holds;
 mod outcomes;
 mod places;
-#[cfg(test)]
-mod printing_tests;
 mod refusing;
 mod site;
 #[cfg(test)]

@@ -1,15 +1,21 @@
-ghost use Rattle.std.specs.Prelude.{◌≡◌, IfOk, IsTrue};
+ghost use Rattle.std.specs.Prelude.{◌≡◌, ◌<◌, IfOk, IsTrue};
+ghost use Rattle.tow_model.specs.Dates.{first_undated};
+ghost use Rattle.tow_model.specs.Predicates.{AreAmong};
 ghost use Rattle.tow_model.specs.Steps as model;
+ghost use Rattle.tow_pred.specs.Numbering.{tree_patterns};
 ghost use Rattle.tow_site.specs.Built.{is_built, is_built_statement};
+ghost use Rattle.tow_site.specs.Compiled.{pattern_texts};
 ghost use Rattle.tow_site.specs.Decided.{Decides};
 ghost use Rattle.tow_site.specs.Walking.{Leads};
 ghost use Rattle.std.specs.List.{list_all};
 
 use crate::answer::answer;
 use crate::default::answer_by_default;
+use crate::site::Site;
 use crate::walk::{Walked, walk_list};
 use std::alloc::{AllocError, Global};
-use tow_model::{Bytes, Choice, List, NoMemory, Record, Request, Statement, Tree};
+use tow_model::{Bytes, Choice, List, NoMemory, Record, Request, Statement};
+use tow_pred::Scratch;
 
 /// How often an exchange can begin its text again.
 const MOST_RESTARTS: u8 = 16;
@@ -21,14 +27,33 @@ pub enum Answerer {
     DefaultHandler,
 }
 
-/// The record that the exchange of a request ends with under this text, over an empty folder. Takes memory for the record.
-pub fn outcome(alloc: Global, tree: &Tree, request: &Request) -> Result<Record, NoMemory>
-    requires { IsTrue (is_built tree.now) }
-    ensures decides { IfOk result (λ x. Decides tree.now request.now x) }
+/// The record that the exchange of a request, at a moment in seconds since 1970, ends with under this site, over an empty
+/// folder. The scratch was made of the site's tests. Takes memory for the record and for what its tests look at.
+pub fn outcome(
+    alloc: Global,
+    site: &Site,
+    scratch: &mut Scratch<'_>,
+    request: &Request,
+    moment: u64,
+) -> Result<Record, NoMemory>
+    requires built { IsTrue (is_built site.now.tree) }
+    requires scratch { scratch.old ≡ pattern_texts site.now.tree }
+    requires dated { moment < first_undated }
+    ensures decides { IfOk result (λ x. Decides site.now.tree request.now moment x) }
     ensures empty { IfOk result (λ x. x.choice ≡ Choice.Empty) }
+    ensures scratch { scratch.new ≡ scratch.old }
 {
+    let tree = site.tree().as_slice();
     let mut record = start(alloc, request)?;
-    match walk_again(alloc, tree.as_slice(), MOST_RESTARTS, &mut record) {
+    match walk_again(
+        alloc,
+        scratch,
+        tree,
+        request,
+        &mut record,
+        moment,
+        MOST_RESTARTS,
+    )? {
         Answerer::Text => {}
         Answerer::DefaultHandler => answer_by_default(alloc, request, &mut record)?,
     }
@@ -36,21 +61,32 @@ pub fn outcome(alloc: Global, tree: &Tree, request: &Request) -> Result<Record, 
 }
 
 /// Walks over the text, and again where it asks for that, `left` times at most. One more answers 500.
-fn walk_again(alloc: Global, statements: &[Statement], left: u8, state: &mut Record) -> Answerer
-    requires { IsTrue (list_all is_built_statement statements.now) }
-    ensures leads { Leads statements.now left state.old result state.new }
-    ensures empty { result ≡ Answerer.Text → state.new.choice ≡ Choice.Empty }
+fn walk_again(
+    alloc: Global,
+    scratch: &mut Scratch<'_>,
+    statements: &[Statement],
+    request: &Request,
+    state: &mut Record,
+    moment: u64,
+    left: u8,
+) -> Result<Answerer, NoMemory>
+    requires built { IsTrue (list_all is_built_statement statements.now) }
+    requires among { AreAmong (tree_patterns statements.now) scratch.old }
+    requires dated { moment < first_undated }
+    ensures leads { IfOk result (λ who. Leads request.now moment statements.now left state.old who state.new) }
+    ensures empty { IfOk result (λ who. who ≡ Answerer.Text → state.new.choice ≡ Choice.Empty) }
+    ensures scratch { scratch.new ≡ scratch.old }
 {
-    match walk_list(statements, state) {
-        Walked::Next | Walked::ToDefault => Answerer::DefaultHandler,
-        Walked::Stopped => Answerer::Text,
+    match walk_list(alloc, scratch, statements, request, state, moment)? {
+        Walked::Next | Walked::ToDefault => Ok(Answerer::DefaultHandler),
+        Walked::Stopped => Ok(Answerer::Text),
         Walked::Restarted => {
             if left == 0 {
                 answer(state, 500);
-                return Answerer::Text;
+                return Ok(Answerer::Text);
             }
             state.context = List::new(alloc);
-            walk_again(alloc, statements, left - 1, state)
+            walk_again(alloc, scratch, statements, request, state, moment, left - 1)
         }
     }
 }

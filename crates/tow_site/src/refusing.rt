@@ -1,15 +1,16 @@
-ghost use Rattle.std.specs.Prelude.{◌≤◌, length, IfSome};
+ghost use Rattle.std.specs.Prelude.{◌≡◌, ◌<◌, ◌≤◌, length, IfSome};
 ghost use Rattle.tow_model.specs.Fault.{IsFault};
 ghost use Rattle.tow_model.specs.Tokens.{IsTokenFault};
 ghost use Rattle.tow_lex.specs.Faults.{lex_fault};
-ghost use Rattle.tow_parse.specs.Faults.{parse_fault};
-ghost use Rattle.tow_site.specs.Compiled.{IsFaultOf};
+ghost use Rattle.tow_fit.specs.Faults.{parse_fault};
+ghost use Rattle.tow_site.specs.Compiled.{IsTreeFault, pattern_fault, refused_number};
 
 use crate::fault::Fault;
 use crate::places::fault_at;
 use tow_lex::LexFault;
 use tow_model::Kind;
 use tow_parse::ParseFault;
+use tow_pred::PatternFault;
 
 /// The offset at which a text is too long.
 const MOST_BYTES: usize = 65_536;
@@ -17,7 +18,7 @@ const MOST_BYTES: usize = 65_536;
 /// The fault of a text that has no tokens.
 pub fn fault_of_tokens(text: &[u8], fault: LexFault) -> Fault
     requires { IfSome (lex_fault fault) (λ f. IsTokenFault text.now f.kind f.place) }
-    ensures { IsFaultOf text.now result }
+    ensures { IsTreeFault text.now result }
 {
     match fault {
         LexFault::UnclosedQuote(place) => fault_at(text, Kind::UnclosedQuote, place),
@@ -28,11 +29,24 @@ pub fn fault_of_tokens(text: &[u8], fault: LexFault) -> Fault
     }
 }
 
+/// The fault of a text one of whose patterns is refused, where the patterns' values stand at these places.
+pub fn fault_of_pattern(text: &[u8], places: &[usize], fault: PatternFault) -> Fault
+    requires short { length text.now ≤ 65536 }
+    requires placed { IfSome (refused_number fault) (λ n. n < length places.now) }
+    ensures { result ≡ pattern_fault text.now places.now fault }
+{
+    match fault {
+        PatternFault::BadPattern(n) => fault_at(text, Kind::BadPattern, places[n as usize]),
+        PatternFault::LargePattern(n) => fault_at(text, Kind::LargePattern, places[n as usize]),
+        PatternFault::NoMemory => Fault::NoMemory,
+    }
+}
+
 /// The fault of a text whose tokens have no tree.
 pub fn fault_of_tree(text: &[u8], fault: ParseFault) -> Fault
     requires short { length text.now ≤ 65536 }
     requires fault { IfSome (parse_fault fault) (λ f. IsFault text.now f.kind f.place) }
-    ensures { IsFaultOf text.now result }
+    ensures { IsTreeFault text.now result }
 {
     match fault {
         ParseFault::Unexpected(place) => fault_at(text, Kind::Unexpected, place),

@@ -1,19 +1,24 @@
 ghost use Rattle.std.specs.Prelude.{◌≡◌, length, IfOk};
+ghost use Rattle.tow_pred.specs.Numbering.{IsNumbered};
+ghost use Rattle.tow_site.specs.Compiled.{pattern_texts};
 
 use std::marker::Model;
 use tow_model::{List, NoMemory, Tree};
+use tow_pred::Tests;
 
 /// A handlers text that compiled. Contracts see its tree and the offsets of its patterns' values.
-#[derive(Debug, Drop)]
+#[derive(Drop)]
 pub struct Site {
     tree: Tree,
     patterns: List<usize>,
+    tests: Tests,
     statements: u32,
 }
 
 impl Model for Site {
     ghost use Rattle.std.specs.Prelude.{length, ◌≡◌};
-    ghost use Rattle.tow_site.specs.Compiled.{SiteData, site_code};
+    ghost use Rattle.tow_pred.specs.Numbering.{IsNumbered};
+    ghost use Rattle.tow_site.specs.Compiled.{SiteData, site_code, pattern_texts};
 
     ghost Value = { SiteData };
 
@@ -21,12 +26,14 @@ impl Model for Site {
 
     ghost view = { λ s. record { tree = s.tree; patterns = s.patterns } };
 
-    ghost invariant = { λ s. s.statements ≡ length s.tree };
+    ghost invariant = { λ s. (s.statements ≡ length s.tree) × (s.tests ≡ pattern_texts s.tree) × IsNumbered s.tree };
 }
 
 impl Site {
-    /// The site of a tree; none where its statements are too many to be numbered.
-    pub fn new(tree: Tree, patterns: List<usize>) -> Result<Site, NoMemory>
+    /// The site of a tree whose patterns were built; none where its statements are too many to be numbered.
+    pub fn new(tree: Tree, patterns: List<usize>, tests: Tests) -> Result<Site, NoMemory>
+        requires tests { tests ≡ pattern_texts tree }
+        requires numbered { IsNumbered tree }
         ensures tree { IfOk result (λ s. s.tree ≡ tree) }
         ensures patterns { IfOk result (λ s. s.patterns ≡ patterns) }
     {
@@ -36,13 +43,15 @@ impl Site {
         Ok(Site {
             tree,
             patterns,
+            tests,
             statements,
         })
     }
 
-    /// The statements of the text's outermost list.
+    /// The statements of the text's outermost list. The regex tests in them are numbered 0, 1, .. in the order of the text.
     pub fn tree(&self) -> &Tree
-        ensures { result.now ≡ self.now.tree }
+        ensures tree { result.now ≡ self.now.tree }
+        ensures numbered { IsNumbered self.now.tree }
     {
         &self.tree
     }
@@ -52,6 +61,13 @@ impl Site {
         ensures { result ≡ length self.now.tree }
     {
         self.statements
+    }
+
+    /// The built patterns of the tree.
+    pub fn tests(&self) -> &Tests
+        ensures { result.now ≡ pattern_texts self.now.tree }
+    {
+        &self.tests
     }
 
     /// The offset of each pattern's value, in the order of the text.

@@ -1,44 +1,116 @@
-use crate::{is_built, outcome};
-use sqlite_items::{Boxed, Items};
+//! What texts come to for a request.
+
+use crate::{compile, is_built, outcome};
 use std::alloc::{AllocError, Global};
-use std::process::Abort;
 use std::test::Fail;
-use tow_model::{
-    Action, Bytes, Choice, Framing, List, NoMemory, Predicate, Record, Request, Statement, Test,
-    Tree, Version,
-};
+use tow_link::PackMaker;
+use tow_model::{Bytes, Choice, Framing, List, Record, Request, Version};
+use tow_pred::Scratch;
 
-fn path(alloc: Global, path: &[u8]) -> Result<Predicate, AllocError> {
-    let mut paths = List::new(alloc);
-    paths.push(Bytes::from_slice(alloc, path)?)?;
-    Ok(Predicate::Is(Test::Path(paths)))
-}
-
-fn respond(status: u16) -> Statement {
-    Statement::Act(Action::ResponseCode(status))
-}
-
-fn when(
-    alloc: Global,
-    test: Predicate,
-    yes: Statement,
-    other: Option<Boxed<Statement>>,
-) -> Result<Statement, AllocError> {
-    let yes = Boxed::new(alloc, yes)?;
-    Ok(Statement::When { test, yes, other })
-}
-
-fn one(alloc: Global, statement: Statement) -> Result<Tree, AllocError> {
-    let mut tree = Items::new(alloc);
-    tree.push(statement)?;
-    Ok(tree)
-}
-
-fn two(alloc: Global, first: Statement, second: Statement) -> Result<Tree, AllocError> {
-    let mut tree = one(alloc, first)?;
-    tree.push(second)?;
-    Ok(tree)
-}
+/// Texts, a method and a path, and the status that the text comes to.
+const ROWS: [(&[u8], &[u8], &[u8], u16); 21] = [
+    (b"", b"GET", b"/", 404),
+    (b"", b"POST", b"/", 405),
+    (b"done", b"HEAD", b"/", 404),
+    (b"path('/hi') -> response-code(204)", b"GET", b"/hi", 204),
+    (b"path('/hi') -> response-code(204)", b"GET", b"/x", 404),
+    (
+        b"path(/a) -> response-code(201); response-code(202)",
+        b"GET",
+        b"/a",
+        201,
+    ),
+    (
+        b"path(/a) -> response-code(201); response-code(202)",
+        b"GET",
+        b"/b",
+        202,
+    ),
+    (b"restart", b"GET", b"/", 500),
+    (
+        b"path(/a) -> { false -> response-code(410); response-code(201) } else done",
+        b"GET",
+        b"/a",
+        201,
+    ),
+    (
+        b"path(/a) -> { false -> response-code(410); response-code(201) } else done",
+        b"GET",
+        b"/b",
+        404,
+    ),
+    (
+        b"path(/a) -> { done; response-code(410) }; response-code(201)",
+        b"GET",
+        b"/a",
+        404,
+    ),
+    // what a test binds, a later one sees
+    (
+        b"path-template('/{a}') and equals({'${a}', x}) -> response-code(201)",
+        b"GET",
+        b"/x",
+        201,
+    ),
+    (
+        b"path-template('/{a}') and equals({'${a}', x}) -> response-code(201)",
+        b"GET",
+        b"/y",
+        404,
+    ),
+    // also where the condition does not hold
+    (
+        b"path-template('/{a}') and false -> done; exists('${a}') -> response-code(201)",
+        b"GET",
+        b"/x",
+        201,
+    ),
+    (
+        b"not path-template('/{a}') -> done else exists('${a}') -> response-code(201)",
+        b"GET",
+        b"/x",
+        201,
+    ),
+    // what is not looked at binds nothing
+    (
+        b"false and path-template('/{a}') -> done; exists('${a}') -> response-code(201)",
+        b"GET",
+        b"/x",
+        404,
+    ),
+    (
+        b"true or path-template('/{a}') -> { exists('${a}') -> response-code(201) }",
+        b"GET",
+        b"/x",
+        404,
+    ),
+    // a restart clears the context: else it would be 410
+    (
+        b"exists('${a}') -> response-code(410); path-template('/{a}') -> restart",
+        b"GET",
+        b"/x",
+        500,
+    ),
+    // two patterns, the first match of each
+    (
+        b"regex('^/(b+)') and regex(pattern='(c)|d', value='${1}') -> done; equals({'${0}', '/bb'}) -> response-code(201)",
+        b"GET",
+        b"/bbd",
+        201,
+    ),
+    (
+        b"{ regex('^/(b+)') -> { regex(pattern='d(x)?$') -> response-code(201) } }",
+        b"GET",
+        b"/bbd",
+        201,
+    ),
+    (
+        b"{ regex('^/(b+)') -> { regex(pattern='d(x)?$') -> response-code(201) } }",
+        b"GET",
+        b"/bbdy",
+        404,
+    ),
+];
 
 /// A request of which the text sees the method and the path.
 fn request(alloc: Global, method: &[u8], path: &[u8]) -> Result<Request, AllocError> {
@@ -59,86 +131,36 @@ fn request(alloc: Global, method: &[u8], path: &[u8]) -> Result<Request, AllocEr
     })
 }
 
-/// What the text makes of the request, which is to have no content.
-fn record_of(
-    rt: &impl Abort,
-    alloc: Global,
-    tree: &Tree,
-    request: &Request,
-) -> Result<Record, NoMemory> {
-    assert!(rt; is_built(tree));
-    let record = outcome(alloc, tree, request)?;
-    assert!(rt; matches!(&record.choice, Choice::Empty));
-    Ok(record)
-}
-
-fn expect(
-    rt: &impl Abort,
-    alloc: Global,
-    tree: &Tree,
-    path: &[u8],
-    status: u16,
-) -> Result<(), NoMemory> {
-    let request = request(alloc, b"GET", path)?;
-    let record = record_of(rt, alloc, tree, &request)?;
-    assert_eq!(rt; record.status, status);
-    Ok(())
+/// What the text makes of the request.
+fn record_of(alloc: Global, text: &[u8], method: &[u8], path: &[u8]) -> Result<Record, Fail> {
+    let site = match compile(alloc, text, &mut PackMaker::new()) {
+        Ok(site) => site,
+        Err(_fault) => return Err("no site".into()),
+    };
+    if !is_built(site.tree()) {
+        return Err("not built".into());
+    }
+    let request = request(alloc, method, path)?;
+    let mut scratch = Scratch::new(alloc, site.tests())?;
+    Ok(outcome(alloc, &site, &mut scratch, &request, 0)?)
 }
 
 #[test]
-fn a_path_that_is_named(rt: HostRuntime) -> Result<(), Fail> {
-    let test = path(rt.alloc(), b"/hi")?;
-    let tree = one(rt.alloc(), when(rt.alloc(), test, respond(204), None)?)?;
-    expect(&rt, rt.alloc(), &tree, b"/hi", 204)?;
-    expect(&rt, rt.alloc(), &tree, b"/x", 404)?;
-    Ok(())
-}
-
-#[test]
-fn the_first_statement_that_holds_decides(rt: HostRuntime) -> Result<(), Fail> {
-    let test = path(rt.alloc(), b"/a")?;
-    let first = when(rt.alloc(), test, respond(201), None)?;
-    let tree = two(rt.alloc(), first, respond(202))?;
-    expect(&rt, rt.alloc(), &tree, b"/a", 201)?;
-    expect(&rt, rt.alloc(), &tree, b"/b", 202)?;
-    Ok(())
-}
-
-#[test]
-fn a_text_that_always_begins_again(rt: HostRuntime) -> Result<(), Fail> {
-    let tree = one(rt.alloc(), Statement::Act(Action::Restart))?;
-    expect(&rt, rt.alloc(), &tree, b"/", 500)?;
+fn statuses(rt: HostRuntime) -> Result<(), Fail> {
+    for (text, method, path, status) in ROWS {
+        let record = record_of(rt.alloc(), text, method, path)?;
+        assert_eq!(rt; record.status, status);
+        assert!(rt; matches!(&record.choice, Choice::Empty));
+    }
     Ok(())
 }
 
 #[test]
 fn a_method_that_is_not_allowed(rt: HostRuntime) -> Result<(), Fail> {
-    let request = request(rt.alloc(), b"POST", b"/")?;
-    let record = record_of(&rt, rt.alloc(), &Items::new(rt.alloc()), &request)?;
-    assert_eq!(rt; record.status, 405);
+    let record = record_of(rt.alloc(), b"", b"POST", b"/")?;
     assert_eq!(rt; record.fields.len(), 1);
     let field = record.fields.get(0).ok_or("no field")?;
     assert_eq!(rt; field.name.as_slice(), b"allow".as_slice());
     assert_eq!(rt; field.value.as_slice(), b"GET, HEAD".as_slice());
-    Ok(())
-}
-
-/// `path('/a') -> { false -> response-code(410); response-code(201) } else done`
-fn block_with_else(alloc: Global) -> Result<Tree, AllocError> {
-    let never = when(alloc, Predicate::Is(Test::False), respond(410), None)?;
-    let block = two(alloc, never, respond(201))?;
-    let done = Boxed::new(alloc, Statement::Act(Action::Done))?;
-    let test = path(alloc, b"/a")?;
-    one(
-        alloc,
-        when(alloc, test, Statement::Block(block), Some(done))?,
-    )
-}
-
-#[test]
-fn a_block_with_an_else_part(rt: HostRuntime) -> Result<(), Fail> {
-    let tree = block_with_else(rt.alloc())?;
-    expect(&rt, rt.alloc(), &tree, b"/a", 201)?;
-    expect(&rt, rt.alloc(), &tree, b"/b", 404)?;
     Ok(())
 }

@@ -1,11 +1,15 @@
-ghost use Rattle.std.specs.Prelude.{◌≡◌, IsTrue};
+ghost use Rattle.std.specs.Prelude.{◌≡◌, ◌<◌, IfOk, IsTrue};
 ghost use Rattle.std.specs.List.{list_all};
+ghost use Rattle.tow_model.specs.Dates.{first_undated};
+ghost use Rattle.tow_model.specs.Predicates.{AreAmong};
+ghost use Rattle.tow_pred.specs.Numbering.{statement_patterns, tree_patterns};
 ghost use Rattle.tow_site.specs.Built.{is_built_action, is_built_statement};
 ghost use Rattle.tow_site.specs.Walking.{Acts, Walks, WalksAll};
 
 use crate::answer::answer;
-use crate::holds::holds;
-use tow_model::{Action, Choice, Record, Statement};
+use std::alloc::Global;
+use tow_model::{Action, Choice, NoMemory, Record, Request, Statement};
+use tow_pred::{Scratch, holds};
 
 /// How a walk over statements ends.
 #[derive(Clone, Copy, Debug, PartialEq, Eq)]
@@ -20,40 +24,63 @@ pub enum Walked {
     Restarted,
 }
 
-/// Walks from the left, until a statement does not go on to the next one.
+/// Walks from the left, until a statement does not go on to the next one. Takes memory for values and bindings.
 #[cycle(walk)]
-pub fn walk_list(statements: &[Statement], state: &mut Record) -> Walked
-    requires { IsTrue (list_all is_built_statement statements.now) }
-    ensures walks { WalksAll statements.now state.old result state.new }
-    ensures empty { result ≡ Walked.Stopped → state.new.choice ≡ Choice.Empty }
+pub fn walk_list(
+    alloc: Global,
+    scratch: &mut Scratch<'_>,
+    statements: &[Statement],
+    request: &Request,
+    state: &mut Record,
+    moment: u64,
+) -> Result<Walked, NoMemory>
+    requires built { IsTrue (list_all is_built_statement statements.now) }
+    requires among { AreAmong (tree_patterns statements.now) scratch.old }
+    requires dated { moment < first_undated }
+    ensures walks { IfOk result (λ end. WalksAll request.now moment statements.now state.old end state.new) }
+    ensures empty { IfOk result (λ end. end ≡ Walked.Stopped → state.new.choice ≡ Choice.Empty) }
+    ensures scratch { scratch.new ≡ scratch.old }
 {
     for statement in statements {
-        match walk_statement(statement, state) {
+        match walk_statement(alloc, scratch, statement, request, state, moment)? {
             Walked::Next => {}
-            end => return end,
+            end => return Ok(end),
         }
     }
-    Walked::Next
+    Ok(Walked::Next)
 }
 
 #[cycle(walk)]
-fn walk_statement(statement: &Statement, state: &mut Record) -> Walked
-    requires { IsTrue (is_built_statement statement.now) }
-    ensures walks { Walks statement.now state.old result state.new }
-    ensures empty { result ≡ Walked.Stopped → state.new.choice ≡ Choice.Empty }
+fn walk_statement(
+    alloc: Global,
+    scratch: &mut Scratch<'_>,
+    statement: &Statement,
+    request: &Request,
+    state: &mut Record,
+    moment: u64,
+) -> Result<Walked, NoMemory>
+    requires built { IsTrue (is_built_statement statement.now) }
+    requires among { AreAmong (statement_patterns statement.now) scratch.old }
+    requires dated { moment < first_undated }
+    ensures walks { IfOk result (λ end. Walks request.now moment statement.now state.old end state.new) }
+    ensures empty { IfOk result (λ end. end ≡ Walked.Stopped → state.new.choice ≡ Choice.Empty) }
+    ensures scratch { scratch.new ≡ scratch.old }
 {
     match statement {
         Statement::When { test, yes, other } => {
-            if holds(test, state) {
-                walk_statement(yes.get(), state)
+            if holds(alloc, scratch, test, request, state, moment)? {
+                walk_statement(alloc, scratch, yes.get(), request, state, moment)
             } else if let Some(other) = other {
-                walk_statement(other.get(), state)
+                walk_statement(alloc, scratch, other.get(), request, state, moment)
             } else {
-                Walked::Next
+                Ok(Walked::Next)
             }
         }
-        Statement::Act(action) => act(action, state),
-        Statement::Block(parts) => walk_list(parts.as_slice(), state),
+        Statement::Act(action) => Ok(act(action, state)),
+        Statement::Block(parts) => {
+            let parts = parts.as_slice();
+            walk_list(alloc, scratch, parts, request, state, moment)
+        }
     }
 }
 
