@@ -1,13 +1,14 @@
 -- What stands at the front of some bytes, whatever follows them.
-use Rattle.std.proofs.Common.{◌≡◌, ℕ, ◌≤◌, inl, inr, IsTrue, Bool, ◌||◌, ◌==◌, List, [], ◌++◌, length, take, drop, All, sym, ap, ◌∙◌, subst, arith, append_assoc, length-append, take-append-drop}
+use Rattle.std.proofs.Common.{◌≡◌, ℕ, ◌≤◌, inl, inr, IsTrue, Bool, false, ◌||◌, ◌==◌, List, [], ◌++◌, length, take, drop, All, sym, ap, ◌∙◌, subst, arith, append_assoc, length-append, take-append-drop}
 use Rattle.std.proofs.lemmas.List.{append-nil, take-append-le}
 use Rattle.std.proofs.lemmas.List.Elements.{All-take}
 use Rattle.std.proofs.Math.Seq.{take-append_seam}
 use Rattle.httparse.specs.Grammar.{RequestHead, print_request}
 use Rattle.httparse.proofs.GrammarLemmas.{ReadsRequest-append}
 use Rattle.tow_model.specs.declared.request.Request.{Request}
-use Rattle.tow_model.specs.Heads.{HasHead, Head}
+use Rattle.tow_model.specs.Heads.{HasHead, Head, is_unserved}
 use Rattle.tow_model.specs.Stream.{IsBlank, IsNoRequest, IsRefused, HasRequest}
+use Rattle.tow_conn.proofs.Served.{served_head}
 use Rattle.tow_request.specs.NextHead.{IsHopeless}
 
 -- a head at the front stays one
@@ -18,15 +19,19 @@ head_before front more rest h has = record {
   fields_fit = has.fields_fit;
 }
 
+-- the bytes are the head of a request that is served
+abbrev pub IsServed : List ℕ → ℕ → Request → Type 0
+IsServed bytes peer q = Head bytes peer q × (is_unserved q.version q.framing q.fields ≡ false)
+
 -- the request of the first bytes that were kept, behind which the others stand
-pub request_before : (kept left : List ℕ) (used peer : ℕ) (q : Request) → Head (take used kept) peer q → HasRequest peer (kept ++ left) q (drop used kept ++ left)
-request_before kept left used peer q is =
+pub request_before : (kept left : List ℕ) (used peer : ℕ) (q : Request) → IsServed (take used kept) peer q → HasRequest peer (kept ++ left) q (drop used kept ++ left)
+request_before kept left used peer q (is, now) =
     let whole : take used kept ++ (drop used kept ++ left) ≡ kept ++ left =
     sym (append_assoc (take used kept) (drop used kept) left) ∙ ap (λ (l : List ℕ). l ++ left) (take-append-drop used kept) in
     record {
       head = is.head;
       reads = subst (λ (input : List ℕ). HasHead input is.head (drop used kept ++ left)) whole (head_before (take used kept) (drop used kept ++ left) [] is.head is.whole);
-      served = is.served;
+      served = served_head (take used kept) peer q is now;
       request = is.request;
     }
 

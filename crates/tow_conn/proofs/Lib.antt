@@ -3,3 +3,4 @@ pub mod Fronts
 pub mod Conversing
 pub mod Replying
 pub mod Turning
+pub mod Served

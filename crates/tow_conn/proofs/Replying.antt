@@ -1,5 +1,5 @@
 -- The reply to a request is all that its exchange writes.
-use Rattle.std.proofs.Common.{◌≡◌, ℕ, Bool, true, false, not, ◌&&◌, ◌||◌, if◌then◌else◌, List, [], ◌++◌, Option, refl, sym, ap, ◌∙◌}
+use Rattle.std.proofs.Common.{◌≡◌, ℕ, Bool, true, false, not, ◌&&◌, ◌||◌, if◌then◌else◌, List, [], ◌++◌, Option, refl, sym, ap, ◌∙◌, subst}
 use Rattle.tow_model.specs.declared.answer.Answer.{Answer}
 use Rattle.tow_model.specs.declared.content.Content.{Content}
 use Rattle.tow_model.specs.declared.record.Record.{Record}
@@ -33,10 +33,10 @@ answers_of run j q x a text walked plain is whole = record {
 
 -- the reply of a site whose text comes to the record x
 pub site_answers : (tree : List Statement) (moments : ℕ → ℕ → ℕ) (j moment : ℕ) (q : Request) (x : Record) (a : Answer) (text : List ℕ)
-    → Decides tree q x → moment ≡ moments 0 j → q.expects ≡ false → a ≡ answer_of q j moment no_content (settled x)
+    → Decides tree q moment x → moment ≡ moments 0 j → q.expects ≡ false → a ≡ answer_of q j moment no_content (settled x)
     → ((file : List ℕ → List ℕ) → text ≡ answer file q a) → Answers (run_of tree [] moments) j q text a.close
 site_answers tree moments j moment q x a text decides at plain is whole =
-    answers_of (run_of tree [] moments) j q x a text (decides (moments 0 j) no_content []) plain
+    answers_of (run_of tree [] moments) j q x a text (subst (λ (m : ℕ). Decides tree q m x) at decides no_content []) plain
     (is ∙ ap (λ (m : ℕ). answer_of q j m no_content (settled x)) at) (whole (run_of tree [] moments).file)
 
 always : (a c d e f : Bool) → (a || true || c || d || e || f) ≡ true

@@ -11,7 +11,6 @@ use Rattle.tow_link.proofs.Appending.{append_known-append}
 use Rattle.tow_model.specs.declared.request.Request.{Request}
 use Rattle.tow_model.specs.declared.statement.Statement.{Statement}
 use Rattle.tow_model.specs.Answers.{refusal_text}
-use Rattle.tow_model.specs.Heads.{Head}
 use Rattle.tow_model.specs.Stream.{IsBlank, IsNoRequest, IsRefused, Reads}
 use Rattle.tow_model.specs.Sites.{run_of}
 use Rattle.tow_model.specs.Wire.{wire_from}
@@ -22,8 +21,8 @@ use Rattle.tow_conn.specs.declared.progress.Turn.TheVariants.{Goes, Ended}
 use Rattle.tow_conn.specs.Conversations.{local_peer, Leads, Ends, Answers}
 use Rattle.tow_conn.specs.Turns.{Moments, open_bytes, BothTell, LeadsOn, GoesOn, EndIsTold, WritesRest, WritesFront, WritesWire, WritesPart}
 use Rattle.tow_conn.proofs.Conversing.{leads_nowhere, leads_same, leads_further, request_leads, request_ends, refusal_ends, blank_ends}
-use Rattle.tow_conn.proofs.Fronts.{request_before, refused_before, hopeless_before}
-use Rattle.tow_request.proofs.Served.{served_framing, served_expects}
+use Rattle.tow_conn.proofs.Fronts.{IsServed, request_before, refused_before, hopeless_before}
+use Rattle.tow_conn.proofs.Served.{served_head, served_framing, served_expects}
 use Rattle.tow_request.specs.NextHead.{IsHopeless}
 
 -- where nothing was left, nothing is
@@ -139,7 +138,7 @@ front_of tree table a b t u o p one = front_after tree table a b t u o p p one (
 
 -- the first request was answered by the text, which does not close
 pub goes_answered : (tree : List Statement) (table : Moments) (old new : Progress) (told : Option Told) (used : ℕ) (q : Request) (text : List ℕ) (o p : Option (List ℕ))
-    → Head (take used old.inbox) local_peer q → new.inbox ≡ drop used old.inbox → new.number ≡ old.number + 1
+    → IsServed (take used old.inbox) local_peer q → new.inbox ≡ drop used old.inbox → new.number ≡ old.number + 1
     → IfSome table (λ moments. Answers (run_of tree [] moments) old.number q text false) → p ≡ append_known o text → GoesOn tree table old new told told o p
 goes_answered tree table old new told used q text o p head inbox number answers appended = record { written = text; appended = appended; leads = by table told answers }
   where
@@ -160,7 +159,7 @@ AsksFor tree table progress told text = IfSome told (λ t. IfSome table (λ mome
 
 -- the first request was answered by the text, which closes
 pub asks_answered : (tree : List Statement) (table : Moments) (progress : Progress) (told : Option Told) (used : ℕ) (q : Request) (text : List ℕ)
-    → Head (take used progress.inbox) local_peer q → IfSome table (λ moments. Answers (run_of tree [] moments) progress.number q text true) → AsksFor tree table progress told text
+    → IsServed (take used progress.inbox) local_peer q → IfSome table (λ moments. Answers (run_of tree [] moments) progress.number q text true) → AsksFor tree table progress told text
 asks_answered tree table progress None used q text head answers = tt
 asks_answered tree None progress (Some t) used q text head answers = tt
 asks_answered tree (Some moments) progress (Some t) used q text head answers =
@@ -212,7 +211,7 @@ front_rest tree (Some moments) progress (Some t) o p rest = λ stream reads. par
 
 -- a front of the answer to the first request, whether it closes or not
 pub front_answered : (tree : List Statement) (table : Moments) (progress : Progress) (told : Option Told) (used : ℕ) (q : Request) (text : List ℕ) (close : Bool) (o p : Option (List ℕ))
-    → Head (take used progress.inbox) local_peer q → IfSome table (λ moments. Answers (run_of tree [] moments) progress.number q text close) → AppendsPart o p text
+    → IsServed (take used progress.inbox) local_peer q → IfSome table (λ moments. Answers (run_of tree [] moments) progress.number q text close) → AppendsPart o p text
     → WritesFront tree table progress told o p
 front_answered tree table progress told used q text true o p head answers part =
     front_written tree table progress told text o p (asks_answered tree table progress told used q text head answers) part
@@ -226,9 +225,10 @@ front_answered tree (Some moments) progress (Some t) used q text false o p head 
 
 -- ---- from what the clock and the reply tell
 
--- a head that is served expects nothing
-pub expects_nothing : (bytes : List ℕ) (q : Request) → Head bytes local_peer q → q.expects ≡ false
-expects_nothing bytes q is = served_expects local_peer bytes q [] (record { head = is.head; reads = is.whole; served = is.served; request = is.request })
+-- a request that is served expects nothing
+pub expects_nothing : (bytes : List ℕ) (q : Request) → IsServed bytes local_peer q → q.expects ≡ false
+expects_nothing bytes q (is, now) =
+    served_expects local_peer bytes q [] (record { head = is.head; reads = is.whole; served = served_head bytes local_peer q is now; request = is.request })
 
 pub answers_told : (tree : List Statement) (table : Moments) (number moment : ℕ) (q : Request) (text : List ℕ) (close : Bool)
     → IfSome table (λ moments. moment ≡ moments 0 number) → q.expects ≡ false

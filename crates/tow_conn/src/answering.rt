@@ -1,9 +1,10 @@
-ghost use Rattle.std.specs.Prelude.{◌≡◌, ◌≢◌, ◌≤◌, ◌+◌, ◌⊎◌, ℕ, List, Option, IfSome, IsTrue, length, take, drop};
+ghost use Rattle.std.specs.Prelude.{◌≡◌, ◌≢◌, ◌≤◌, ◌+◌, ◌⊎◌, ℕ, List, Option, IfSome, IsTrue, false, length, take, drop};
 ghost use Rattle.tow_link.specs.Data.{Rose, Told};
-ghost use Rattle.tow_model.specs.Heads.{Head};
+ghost use Rattle.tow_model.specs.Heads.{Head, is_unserved};
 ghost use Rattle.tow_model.specs.Stream.{IsNoRequest, IsRefused};
 ghost use Rattle.tow_request.specs.NextHead.{IsHopeless};
 ghost use Rattle.tow_site.specs.Built.{is_built};
+ghost use Rattle.tow_site.specs.Compiled.{pattern_texts};
 ghost use Rattle.tow_conn.specs.Conversations.{local_peer};
 ghost use Rattle.tow_conn.specs.Turns.{EndIsTold, GoesOn, WritesRest, WritesFront};
 
@@ -13,26 +14,32 @@ use std::alloc::Global;
 use tow_answer::refusal;
 use tow_host::Clock;
 use tow_link::{Sink, write_all};
-use tow_model::{End, Request, Tree};
+use tow_model::{End, Request};
+use tow_pred::Scratch;
+use tow_site::Site;
 
-/// Answers the request whose head is the first `used` bytes of the inbox, and takes these from it where the connection goes on.
+/// Answers the request whose head is the first `used` bytes of the inbox, and that is served, and takes these from it where the connection goes on.
 pub fn answer_request<O: Sink, C: Clock>(
     alloc: Global,
-    tree: &Tree,
+    site: &Site,
+    scratch: &mut Scratch<'_>,
     output: &mut O,
     clock: &mut C,
     progress: &mut Progress,
     request: &Request,
     used: usize,
 ) -> Turn
-    requires built { IsTrue (is_built tree.now) }
+    requires built { IsTrue (is_built site.now.tree) }
+    requires scratch { scratch.old ≡ pattern_texts site.now.tree }
     requires used { used ≤ length progress.old.inbox }
     requires head { Head (take used progress.old.inbox) local_peer request.now }
+    requires served { is_unserved request.now.version request.now.framing request.now.fields ≡ false }
     requires number { progress.old.number ≤ 1000 }
     ensures table { C.table clock.new ≡ C.table clock.old }
-    ensures goes { result ≡ Turn.Goes → (told : Option Told) → GoesOn tree.now (C.table clock.old) progress.old progress.new told told (O.shows output.old).written (O.shows output.new).written }
-    ensures done { result ≡ Turn.Ended End.Done → (told : Option Told) → WritesRest tree.now (C.table clock.old) progress.old told (O.shows output.old).written (O.shows output.new).written }
-    ensures front { (told : Option Told) → WritesFront tree.now (C.table clock.old) progress.old told (O.shows output.old).written (O.shows output.new).written }
+    ensures scratch { scratch.new ≡ scratch.old }
+    ensures goes { result ≡ Turn.Goes → (told : Option Told) → GoesOn site.now.tree (C.table clock.old) progress.old progress.new told told (O.shows output.old).written (O.shows output.new).written }
+    ensures done { result ≡ Turn.Ended End.Done → (told : Option Told) → WritesRest site.now.tree (C.table clock.old) progress.old told (O.shows output.old).written (O.shows output.new).written }
+    ensures front { (told : Option Told) → WritesFront site.now.tree (C.table clock.old) progress.old told (O.shows output.old).written (O.shows output.new).written }
     ensures next { result ≡ Turn.Goes → (progress.new.number ≡ progress.old.number + 1) × (progress.new.number ≤ 1000) }
     ensures ended { progress.new.ended ≡ progress.old.ended }
     ensures ends { result ≢ Turn.Ended End.FolderFault }
@@ -40,7 +47,7 @@ pub fn answer_request<O: Sink, C: Clock>(
     ensures failed { result ≡ Turn.Ended End.LinkFault → Rose (O.shows output.old).faults (O.shows output.new).faults }
 {
     let moment = clock.at(0, progress.number);
-    let reply = match reply_to(alloc, tree, request, progress.number, moment) {
+    let reply = match reply_to(alloc, site, scratch, request, progress.number, moment) {
         Ok(reply) => reply,
         Err(_memory) => return Turn::Ended(End::NoMemory),
     };
@@ -58,7 +65,7 @@ pub fn answer_request<O: Sink, C: Clock>(
 /// Answers a head that is refused, or bytes that will be no head, with this status; the connection ends.
 pub fn answer_refusal<O: Sink, C: Clock>(
     alloc: Global,
-    tree: &Tree,
+    site: &Site,
     output: &mut O,
     clock: &mut C,
     progress: &Progress,
@@ -66,13 +73,13 @@ pub fn answer_refusal<O: Sink, C: Clock>(
 ) -> End
     requires why { IsRefused progress.now.inbox status ⊎ ((status ≡ 400) × IsNoRequest progress.now.inbox × IsHopeless progress.now.inbox progress.now.ended) }
     ensures table { C.table clock.new ≡ C.table clock.old }
-    ensures done { result ≡ End.Done → (told : Option Told) → EndIsTold progress.now told → WritesRest tree.now (C.table clock.old) progress.now told (O.shows output.old).written (O.shows output.new).written }
-    ensures front { (told : Option Told) → EndIsTold progress.now told → WritesFront tree.now (C.table clock.old) progress.now told (O.shows output.old).written (O.shows output.new).written }
+    ensures done { result ≡ End.Done → (told : Option Told) → EndIsTold progress.now told → WritesRest site.now.tree (C.table clock.old) progress.now told (O.shows output.old).written (O.shows output.new).written }
+    ensures front { (told : Option Told) → EndIsTold progress.now told → WritesFront site.now.tree (C.table clock.old) progress.now told (O.shows output.old).written (O.shows output.new).written }
     ensures ends { result ≢ End.FolderFault }
     ensures later { (O.shows output.old).faults ≤ (O.shows output.new).faults }
     ensures failed { result ≡ End.LinkFault → Rose (O.shows output.old).faults (O.shows output.new).faults }
 {
-    let _tree = tree;
+    let _site = site;
     let moment = clock.at(0, progress.number);
     let text = match refusal(alloc, status, moment) {
         Ok(text) => text,

@@ -9,5 +9,6 @@ mod reading;
 mod reply;
 #[cfg(test)]
 mod tests;
+mod unserved;
 
 pub use ask::ask_whole;

@@ -2,12 +2,14 @@ ghost use Rattle.std.specs.Prelude.{◌≡◌, ◌<◌, ℕ, [], false, true, If
 ghost use Rattle.tow_model.specs.Dates.{first_undated};
 ghost use Rattle.tow_model.specs.Sites.{run_of};
 ghost use Rattle.tow_site.specs.Built.{is_built};
+ghost use Rattle.tow_site.specs.Compiled.{pattern_texts};
 ghost use Rattle.tow_conn.specs.Conversations.{Answers};
 
 use std::alloc::Global;
 use tow_answer::{answer_to, text_of};
-use tow_model::{Bytes, NoMemory, Request, Tree};
-use tow_site::outcome;
+use tow_model::{Bytes, NoMemory, Request};
+use tow_pred::Scratch;
+use tow_site::{Site, outcome};
 
 /// All that is written for a request, and whether the connection ends behind it.
 #[derive(Debug, Drop)]
@@ -19,17 +21,20 @@ pub struct Reply {
 /// The reply of a site to request `number` at a moment in seconds since 1970.
 pub fn reply_to(
     alloc: Global,
-    tree: &Tree,
+    site: &Site,
+    scratch: &mut Scratch<'_>,
     request: &Request,
     number: u32,
     moment: u64,
 ) -> Result<Reply, NoMemory>
-    requires built { IsTrue (is_built tree.now) }
+    requires built { IsTrue (is_built site.now.tree) }
+    requires scratch { scratch.old ≡ pattern_texts site.now.tree }
     requires moment { moment < first_undated }
-    ensures answers { IfOk result (λ r. (moments : ℕ → ℕ → ℕ) → moment ≡ moments 0 number → request.now.expects ≡ false → Answers (run_of tree.now [] moments) number request.now r.text r.closes) }
+    ensures answers { IfOk result (λ r. (moments : ℕ → ℕ → ℕ) → moment ≡ moments 0 number → request.now.expects ≡ false → Answers (run_of site.now.tree [] moments) number request.now r.text r.closes) }
+    ensures scratch { scratch.new ≡ scratch.old }
     ensures last { IfOk result (λ r. number ≡ 1000 → r.closes ≡ true) }
 {
-    let state = outcome(alloc, tree, request)?;
+    let state = outcome(alloc, site, scratch, request, moment)?;
     let answer = answer_to(alloc, request, number, moment, state)?;
     let text = text_of(alloc, request, &answer)?;
     Ok(Reply {

@@ -11,8 +11,9 @@ turns-preserved g c =
     let turn = c.in-Goes.ensures in
     record {
       table = turn.table ∙ before.table;
-      so_far = goes_further c.args.tree.now (g.C.Clock.table c.args.clock.now) _ c.turns.progress c.take_turn.new.progress _ _ _ _ _ _ before.so_far
-          (subst (λ (table : Option (ℕ → ℕ → ℕ)). GoesOn c.args.tree.now table c.turns.progress c.take_turn.new.progress (g.I.Source.shows c.turns.link.input).told (g.I.Source.shows c.take_turn.new.link.input).told (g.O.Sink.shows c.turns.link.output).written (g.O.Sink.shows c.take_turn.new.link.output).written) before.table (turn.goes refl));
+      scratch = turn.scratch ∙ before.scratch;
+      so_far = goes_further c.args.site.now.tree (g.C.Clock.table c.args.clock.now) _ c.turns.progress c.take_turn.new.progress _ _ _ _ _ _ before.so_far
+          (subst (λ (table : Option (ℕ → ℕ → ℕ)). GoesOn c.args.site.now.tree table c.turns.progress c.take_turn.new.progress (g.I.Source.shows c.turns.link.input).told (g.I.Source.shows c.take_turn.new.link.input).told (g.O.Sink.shows c.turns.link.output).written (g.O.Sink.shows c.take_turn.new.link.output).written) before.table (turn.goes refl));
       number = (turn.on refl).0;
       told = turn.told;
       later_input = omega (arith, before.later_input, turn.later_input);
@@ -21,7 +22,7 @@ turns-preserved g c =
 
 pub returns-in-Ended-clause-done : goal.returns-in-Ended-clause-done
 returns-in-Ended-clause-done g c = λ is.
-    let tree = c.args.tree.now in
+    let tree = c.args.site.now.tree in
     let table = g.C.Clock.table c.args.clock.now in
     let rest = subst (λ (t : Option (ℕ → ℕ → ℕ)). WritesRest tree t c.turns.progress (g.I.Source.shows c.turns.link.input).told (g.O.Sink.shows c.turns.link.output).written (g.O.Sink.shows c.take_turn.new.link.output).written)
     c.turns.invariant.table (c.in-Ended.ensures.done (ap (λ (end : End). Ended end) is)) in
@@ -29,7 +30,7 @@ returns-in-Ended-clause-done g c = λ is.
 
 pub returns-in-Ended-clause-part : goal.returns-in-Ended-clause-part
 returns-in-Ended-clause-part g c =
-    let tree = c.args.tree.now in
+    let tree = c.args.site.now.tree in
     let table = g.C.Clock.table c.args.clock.now in
     let front = subst (λ (t : Option (ℕ → ℕ → ℕ)). WritesFront tree t c.turns.progress (g.I.Source.shows c.turns.link.input).told (g.O.Sink.shows c.turns.link.output).written (g.O.Sink.shows c.take_turn.new.link.output).written)
     c.turns.invariant.table c.in-Ended.ensures.front in

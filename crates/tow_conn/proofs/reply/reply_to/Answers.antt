@@ -8,7 +8,7 @@ use Rattle.tow_conn.proofs.reply.reply_to.Goals as goal
 pub returns-clause-answers : goal.returns-clause-answers
 returns-clause-answers c = λ moments at plain.
     let x = c.in_ok-state.state in
-    site_answers c.args.tree.now moments c.args.number c.args.moment c.args.request.now x c.in_ok-answer.answer c.in_ok-text.text
+    site_answers c.args.site.now.tree moments c.args.number c.args.moment c.args.request.now x c.in_ok-answer.answer c.in_ok-text.text
     c.in_ok-state.ensures.decides at plain (c.in_ok-answer.ensures.answer no_content (settled x) refl refl) c.in_ok-text.ensures
 
 pub returns-clause-last : goal.returns-clause-last
