@@ -1,5 +1,5 @@
 -- Where the text is right and nothing failed, only success and want of memory are left.
-use Rattle.std.proofs.Common.{◌≡◌, ℕ, ◌+◌, ◌≤◌, ◌⊎◌, inl, inr, Bool, true, false, List, [], ◌++◌, length, Option, Some, None, refl, sym, ap, ◌∙◌, subst, arith, length-append}
+use Rattle.std.proofs.Common.{◌≡◌, ℕ, ◌≤◌, ◌⊎◌, inl, inr, Bool, true, false, List, [], ◌++◌, length, Option, Some, None, sym, ap, ◌∙◌, subst, arith, length-append}
 use Rattle.std.proofs.lemmas.List.{append-nil}
 use Rattle.std.proofs.lemmas.Option.{same_Some}
 use Rattle.std.specs.Prelude.{IfSome, IsSomeAnd}
@@ -7,45 +7,47 @@ use Rattle.tow_link.specs.Data.{Told, SourceData, Rose}
 use Rattle.tow_host.specs.Held.{Held}
 use Rattle.tow_host.specs.Texts.{text_named}
 use Rattle.tow_site.specs.Compiled.{SiteData, IsSiteOf}
-use Rattle.tow_site.proofs.Sites.{one_site, no_site_at_fault, is_short}
+use Rattle.tow_site.proofs.Sites.{one_site, no_site_at_fault, no_site_at_pattern, is_short}
 use Rattle.tow_server.specs.declared.status.Status.{Status}
 use Rattle.tow_server.specs.declared.status.Status.TheVariants.{Done, Text, NoMemory, StreamFault}
 use Rattle.tow_server.specs.Lines.{IsRefusal}
 use Rattle.tow_server.specs.Loading.{Texts, IsNamed, IsRead, IsRightText, NothingFailed}
 
--- the text of a site that is built is not refused
-built_not_refused : (is_built : SiteData → Bool) (bytes line : List ℕ) (site : SiteData) → IsSiteOf bytes site → is_built site ≡ true → IsRefusal is_built bytes line → ⊥
-built_not_refused is_built bytes line site is built (inl (kind, place, fault, named)) = no_site_at_fault bytes kind place site fault is
-built_not_refused is_built bytes line site is built (inr (other, is2, unbuilt, named)) =
-    let same : is_built site ≡ is_built other = ap is_built (one_site bytes site other is is2) in
-    let wrong : true ≡ false = sym built ∙ same ∙ unbuilt in cc
+module _ (before now : List ℕ → ℕ) (none_rose : (pattern : List ℕ) → Rose (before pattern) (now pattern) → ⊥) where
+  -- the text of a site that is built is not refused
+  built_not_refused : (is_built : SiteData → Bool) (bytes line : List ℕ) (site : SiteData) → IsSiteOf bytes site → is_built site ≡ true → IsRefusal is_built bytes before now line → ⊥
+  built_not_refused is_built bytes line site is built (inl (kind, place, inl fault, named)) = no_site_at_fault bytes kind place site fault is
+  built_not_refused is_built bytes line site is built (inl (kind, place, inr fault, named)) = no_site_at_pattern bytes kind place site before now fault is none_rose
+  built_not_refused is_built bytes line site is built (inr (other, is2, unbuilt, named)) =
+      let same : is_built site ≡ is_built other = ap is_built (one_site bytes site other is is2) in
+      let wrong : true ≡ false = sym built ∙ same ∙ unbuilt in cc
 
--- nor is it where all of it was read, or 65,537 bytes
-read_not_refused : (is_built : SiteData → Bool) (told : Told) (whole bytes line : List ℕ) (site : SiteData) → IsSiteOf whole site → is_built site ≡ true → whole ≡ told.read ++ told.left
-    → told.read ≡ bytes → (told.left ≡ []) ⊎ (length bytes ≡ 65537) → IsRefusal is_built bytes line → ⊥
-read_not_refused is_built told whole bytes line site is built same read (inl over) refusal =
-    let all : whole ≡ bytes = same ∙ ap (λ (l : List ℕ). told.read ++ l) over ∙ append-nil told.read ∙ read in
-    built_not_refused is_built bytes line site (subst (λ (l : List ℕ). IsSiteOf l site) all is) built refusal
-read_not_refused is_built told whole bytes line site is built same read (inr long) refusal =
-    omega (arith, is_short whole site is, ap length same, length-append told.read told.left, ap length read, long)
+  -- nor is it where all of it was read, or 65,537 bytes
+  read_not_refused : (is_built : SiteData → Bool) (told : Told) (whole bytes line : List ℕ) (site : SiteData) → IsSiteOf whole site → is_built site ≡ true → whole ≡ told.read ++ told.left
+      → told.read ≡ bytes → (told.left ≡ []) ⊎ (length bytes ≡ 65537) → IsRefusal is_built bytes before now line → ⊥
+  read_not_refused is_built told whole bytes line site is built same read (inl over) refusal =
+      let all : whole ≡ bytes = same ∙ ap (λ (l : List ℕ). told.read ++ l) over ∙ append-nil told.read ∙ read in
+      built_not_refused is_built bytes line site (subst (λ (l : List ℕ). IsSiteOf l site) all is) built refusal
+  read_not_refused is_built told whole bytes line site is built same read (inr long) refusal =
+      omega (arith, is_short whole site is, ap length same, length-append told.read told.left, ap length read, long)
 
-source_not_refused : (is_built : SiteData → Bool) (told : Option Told) (whole bytes line : List ℕ) (site : SiteData) → IsSiteOf whole site → is_built site ≡ true
-    → IsSomeAnd told (λ t. Some whole ≡ Some (t.read ++ t.left)) → IfSome told (λ t. (t.read ≡ bytes) × ((t.left ≡ []) ⊎ (length bytes ≡ 65537)))
-    → IsRefusal is_built bytes line → ⊥
-source_not_refused is_built None whole bytes line site is built named read refusal = absurd named
-source_not_refused is_built (Some told) whole bytes line site is built named read refusal =
-    read_not_refused is_built told whole bytes line site is built (same_Some whole (told.read ++ told.left) named) read.0 read.1 refusal
+  source_not_refused : (is_built : SiteData → Bool) (told : Option Told) (whole bytes line : List ℕ) (site : SiteData) → IsSiteOf whole site → is_built site ≡ true
+      → IsSomeAnd told (λ t. Some whole ≡ Some (t.read ++ t.left)) → IfSome told (λ t. (t.read ≡ bytes) × ((t.left ≡ []) ⊎ (length bytes ≡ 65537)) × (length bytes ≤ 65537))
+      → IsRefusal is_built bytes before now line → ⊥
+  source_not_refused is_built None whole bytes line site is built named read refusal = absurd named
+  source_not_refused is_built (Some told) whole bytes line site is built named read refusal =
+      read_not_refused is_built told whole bytes line site is built (same_Some whole (told.read ++ told.left) named) read.0 read.1 refusal
 
--- a right text that was read is not refused
-pub not_refused : (is_built : SiteData → Bool) (texts : Texts) (name : List ℕ) (source : SourceData) (bytes line : List ℕ) → IsRightText is_built texts name → IsNamed texts name source
-    → IsRead source bytes → IsRefusal is_built bytes line → ⊥
-not_refused is_built None name source bytes line right named read refusal = absurd right
-not_refused is_built (Some texts) name source bytes line right named read refusal = by (text_named texts name) right named
-  where
-    by : (o : Option (List ℕ)) → IsSomeAnd o (λ whole. (site : SiteData) × IsSiteOf whole site × (is_built site ≡ true))
-        → IsSomeAnd source.told (λ t. o ≡ Some (t.read ++ t.left)) → ⊥
-    by None right named = absurd right
-    by (Some whole) (site, is, built) named = source_not_refused is_built source.told whole bytes line site is built named read refusal
+  -- a right text that was read is not refused
+  pub not_refused : (is_built : SiteData → Bool) (texts : Texts) (name : List ℕ) (source : SourceData) (bytes line : List ℕ) → IsRightText is_built texts name → IsNamed texts name source
+      → IsRead source bytes → IsRefusal is_built bytes before now line → ⊥
+  not_refused is_built None name source bytes line right named read refusal = absurd right
+  not_refused is_built (Some texts) name source bytes line right named read refusal = by (text_named texts name) right named
+    where
+      by : (o : Option (List ℕ)) → IsSomeAnd o (λ whole. (site : SiteData) × IsSiteOf whole site × (is_built site ≡ true))
+          → IsSomeAnd source.told (λ t. o ≡ Some (t.read ++ t.left)) → ⊥
+      by None right named = absurd right
+      by (Some whole) (site, is, built) named = source_not_refused is_built source.told whole bytes line site is built named read refusal
 
 -- the ends of a command under a text, of which two cannot be
 pub complete_by_ends : (status : Status) → (((status ≡ Done) ⊎ (status ≡ StreamFault)) ⊎ (status ≡ NoMemory)) ⊎ (status ≡ Text)
@@ -55,6 +57,6 @@ complete_by_ends status (inl (inl (inr fault))) text stream = absurd (stream fau
 complete_by_ends status (inl (inr memory)) text stream = inr memory
 complete_by_ends status (inr wrong) text stream = absurd (text wrong)
 
-pub no_rise : (texts : Texts) (name : List ℕ) (old new : Held) (before now : ℕ) → NothingFailed texts name old new before now → Rose old.input.faults new.input.faults ⊎ Rose old.output.faults new.output.faults → ⊥
-no_rise texts name old new before now fine (inl rose) = fine.input rose
-no_rise texts name old new before now fine (inr rose) = fine.output rose
+pub no_rise : (texts : Texts) (name : List ℕ) (old new : Held) (before now : ℕ) (larges_before larges_now : List ℕ → ℕ) → NothingFailed texts name old new before now larges_before larges_now → Rose old.input.faults new.input.faults ⊎ Rose old.output.faults new.output.faults → ⊥
+no_rise texts name old new before now larges_before larges_now fine (inl rose) = fine.input rose
+no_rise texts name old new before now larges_before larges_now fine (inr rose) = fine.output rose

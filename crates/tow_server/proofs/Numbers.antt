@@ -1,5 +1,5 @@
 -- Numbers by their digits, from the left.
-use Rattle.std.proofs.Common.{◌≡◌, ℕ, ◌+◌, ◌-◌, ◌*◌, ◌≤◌, ◌<◌, suc, Bool, true, false, nat_le, length, drop, get_or, List, [], ◌∷◌, Option, Some, None, if◌then◌else◌, fold, refl, sym, ap, ◌∙◌, arith}
+use Rattle.std.proofs.Common.{◌≡◌, ℕ, ◌+◌, ◌-◌, ◌*◌, ◌≤◌, ◌<◌, suc, Bool, true, false, nat_le, length, drop, get_or, List, [], ◌∷◌, Some, None, if◌then◌else◌, fold, sym, ap, ◌∙◌, arith}
 use Rattle.std.proofs.Math.Seq.{drop-cons}
 use Rattle.std.proofs.lemmas.Bool.Decides.{nat_tests}
 use Rattle.tow_server.specs.Words.{with_digit, last_moment, number_of, second_of}

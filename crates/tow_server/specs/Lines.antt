@@ -1,9 +1,11 @@
 -- The lines that the commands print.
-use Rattle.std.specs.Prelude.{◌≡◌, ◌⊎◌, ℕ, Bool, false, List, ◌++◌, codes, decimal}
+use Rattle.std.specs.Prelude.{◌≡◌, ◌⊎◌, ℕ, Bool, false, List, [], ◌++◌, codes, decimal}
 use Rattle.tow_model.specs.declared.kind.Kind.{Kind}
 use Rattle.tow_model.specs.declared.kind.Kind.TheVariants.{TooLong, UnclosedQuote, UnclosedBrace, StrayByte, Unexpected, TooDeep, UnknownName, BadParameter, BadAttribute, BadTarget, TooManyLimits, BadPattern, LargePattern}
 use Rattle.tow_model.specs.Fault.{IsFault, line_of, column_of}
-use Rattle.tow_site.specs.Compiled.{SiteData, IsSiteOf}
+use Rattle.tow_site.specs.Compiled.{SiteData, IsSiteOf, IsPatternFault}
+use Rattle.tow_site.specs.declared.fault.Fault.{Fault}
+use Rattle.tow_site.specs.declared.fault.Fault.TheVariants.{Text, NoMemory}
 
 abbrev pub kind_name : Kind → List ℕ
 kind_name TooLong = codes "TooLong"
@@ -32,14 +34,21 @@ unbuilt_line = codes "1:1: Unbuilt\n"
 abbrev pub ok_line : ℕ → List ℕ
 ok_line statements = codes "ok " ++ decimal statements ++ codes "\n"
 
--- the line names the fault of the text
-abbrev pub IsFaultLine : List ℕ → List ℕ → Type 0
-IsFaultLine bytes line = (kind : Kind) × (place : ℕ) × IsFault bytes kind place × (line ≡ fault_line kind (line_of bytes place) (column_of bytes place))
+-- the line for a fault of a text
+abbrev pub line_for : Fault → List ℕ
+line_for (Text kind line column) = fault_line kind line column
+line_for NoMemory = []
+
+-- the line names the fault of the text: its tree's, or that of a pattern, where the host counted large patterns so before
+-- the command and after it
+abbrev pub IsFaultLine : List ℕ → (List ℕ → ℕ) → (List ℕ → ℕ) → List ℕ → Type 0
+IsFaultLine bytes before now line =
+    (kind : Kind) × (place : ℕ) × (IsFault bytes kind place ⊎ IsPatternFault bytes kind place before now) × (line ≡ fault_line kind (line_of bytes place) (column_of bytes place))
 
 -- the line says that the text's site is not built
 abbrev pub IsUnbuiltLine : (SiteData → Bool) → List ℕ → List ℕ → Type 0
 IsUnbuiltLine is_built bytes line = (site : SiteData) × IsSiteOf bytes site × (is_built site ≡ false) × (line ≡ unbuilt_line)
 
 -- why a text is refused, and with which line
-abbrev pub IsRefusal : (SiteData → Bool) → List ℕ → List ℕ → Type 0
-IsRefusal is_built bytes line = IsFaultLine bytes line ⊎ IsUnbuiltLine is_built bytes line
+abbrev pub IsRefusal : (SiteData → Bool) → List ℕ → (List ℕ → ℕ) → (List ℕ → ℕ) → List ℕ → Type 0
+IsRefusal is_built bytes before now line = IsFaultLine bytes before now line ⊎ IsUnbuiltLine is_built bytes line

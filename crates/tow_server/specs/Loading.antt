@@ -1,5 +1,5 @@
 -- What a command leaves of the text that it was given a name of.
-use Rattle.std.specs.Prelude.{◌≡◌, ℕ, ◌<◌, ◌⊎◌, Bool, true, List, [], ◌++◌, length, Option, Some, None, IfSome, IsSomeAnd}
+use Rattle.std.specs.Prelude.{◌≡◌, ℕ, ◌<◌, ◌≤◌, ◌⊎◌, Bool, true, List, [], ◌++◌, length, Option, Some, None, IfSome, IsSomeAnd}
 use Rattle.std.specs.Io.KnownBytes.{append_known}
 use Rattle.tow_link.specs.Data.{SourceData, SinkData, Rose}
 use Rattle.tow_link.specs.Runs.{AppendsPart}
@@ -21,9 +21,9 @@ pub record ReturnsText (texts : Texts) (name : List ℕ) (old new : Held) : Type
   pub returned : Rose old.returned new.returned
   pub named : IsNamed texts name new.text
 
--- where the source tells: these bytes of it were read, which are all of it, or 65,537
+-- where the source tells: these bytes of it were read, which are all of it, or 65,537, and never more
 abbrev pub IsRead : SourceData → List ℕ → Type 0
-IsRead source bytes = IfSome source.told (λ t. (t.read ≡ bytes) × ((t.left ≡ []) ⊎ (length bytes ≡ 65537)))
+IsRead source bytes = IfSome source.told (λ t. (t.read ≡ bytes) × ((t.left ≡ []) ⊎ (length bytes ≡ 65537)) × (length bytes ≤ 65537))
 
 -- where the source tells: it was read to its end, and what was read is the text of a site that is built, of which the fact
 -- holds
@@ -40,12 +40,13 @@ pub record LeavesStreams (old new : Held) : Type 0 where
 abbrev pub Prints : SinkData → SinkData → List ℕ → Type 0
 Prints old new line = (new.written ≡ append_known old.written line) ⊎ (AppendsPart old.written new.written line × Rose old.faults new.faults)
 
--- the text was read and is refused, and the line that says why was printed
-pub record Refuses (is_built : SiteData → Bool) (old new : Held) : Type 0 where
+-- The text was read and is refused, and the line that says why was printed. The host counted large patterns so before the
+-- command and after it.
+pub record Refuses (is_built : SiteData → Bool) (before now : List ℕ → ℕ) (old new : Held) : Type 0 where
   pub bytes : List ℕ
   pub line : List ℕ
   pub read : IsRead new.text bytes
-  pub refusal : IsRefusal is_built bytes line
+  pub refusal : IsRefusal is_built bytes before now line
   pub prints : Prints old.output new.output line
   pub input : new.input ≡ old.input
 
@@ -64,9 +65,11 @@ abbrev pub IsRightText : (SiteData → Bool) → Texts → List ℕ → Type 0
 IsRightText is_built None name = ⊥
 IsRightText is_built (Some texts) name = IsSomeAnd (text_named texts name) (λ bytes. (site : SiteData) × IsSiteOf bytes site × (is_built site ≡ true))
 
--- nothing failed in this call: not the text's source, not the host's call with this name, not the input, not the output
-pub record NothingFailed (texts : Texts) (text : List ℕ) (old new : Held) (before now : ℕ) : Type 0 where
+-- nothing failed in this call: not the text's source, not the host's call with this name, not the input, not the output, and
+-- the host refused no pattern as too large
+pub record NothingFailed (texts : Texts) (text : List ℕ) (old new : Held) (before now : ℕ) (larges_before larges_now : List ℕ → ℕ) : Type 0 where
   pub source : ¬ (TextSourceFailed texts text old new)
   pub name : ¬ (Rose before now)
   pub input : ¬ (Rose old.input.faults new.input.faults)
   pub output : ¬ (Rose old.output.faults new.output.faults)
+  pub patterns : (pattern : List ℕ) → ¬ (Rose (larges_before pattern) (larges_now pattern))

@@ -2,7 +2,6 @@
 use Rattle.std.specs.Prelude.{ℕ, ◌+◌, ◌-◌, ◌*◌, ◌&&◌, nat_le, List, [], ◌∷◌, length, fold, Option, Some, None, codes, bytes_eq, if◌then◌else◌}
 use Rattle.std.specs.List.{list_all}
 use Rattle.std.specs.Char.{is_ascii_digit}
-use Rattle.tow_server.specs.declared.status.Why.{Why}
 use Rattle.tow_server.specs.declared.status.Why.TheVariants.{NoCommand, BadWords}
 use Rattle.tow_server.specs.declared.words.Words.{Words}
 use Rattle.tow_server.specs.declared.words.Words.TheVariants.{Ask, Check, Usage}

@@ -1,6 +1,6 @@
 ghost use Rattle.std.specs.Prelude.{◌≡◌, ◌⊎◌, Err, IfOk, IfErr};
 ghost use Rattle.tow_link.specs.Data.{Rose, raised};
-ghost use Rattle.tow_host.specs.Counts.{count_at};
+ghost use Rattle.tow_link.specs.Counts.{count_at};
 ghost use Rattle.tow_server.specs.Loading.{IsNamed, IsRead, LeavesStreams, TextSourceFailed};
 
 use crate::status::Status;
@@ -29,6 +29,7 @@ pub fn keep_text<H: Host>(host: &mut H, source: H::Text)
     ensures faults { H.text_faults host.new ≡ H.text_faults host.old }
     ensures texts { H.texts host.new ≡ H.texts host.old }
     ensures moments { H.moments host.new ≡ H.moments host.old }
+    ensures larges { H.larges host.new ≡ H.larges host.old }
 {
     host.take_back(Kept {
         text: Some(source),
@@ -50,6 +51,7 @@ pub fn load_text<H: Host>(
     ensures home { H.is_home host.new ≡ H.is_home host.old }
     ensures texts { H.texts host.new ≡ H.texts host.old }
     ensures moments { H.moments host.new ≡ H.moments host.old }
+    ensures larges { H.larges host.new ≡ H.larges host.old }
     ensures host { result ≡ Err Status.HostFault → TextSourceFailed (H.texts host.old) name.now (H.held host.old) (H.held host.new) ⊎ Rose (count_at (H.text_faults host.old) name.now) (count_at (H.text_faults host.new) name.now) }
     ensures ends { IfErr result (λ status. status ≡ Status.HostFault ⊎ status ≡ Status.NoMemory) }
     ensures streams { IfErr result (λ _. LeavesStreams (H.held host.old) (H.held host.new)) }

@@ -3,8 +3,11 @@
 
 mod asking;
 mod checking;
+mod compiling;
 mod lines;
 mod loading;
+#[cfg(test)]
+mod predicate_tests;
 mod printing;
 mod refusing;
 mod running;

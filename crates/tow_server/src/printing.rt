@@ -23,6 +23,7 @@ pub fn print_line<H: Host>(host: &mut H, line: &[u8]) -> bool
     ensures faults { H.text_faults host.new ≡ H.text_faults host.old }
     ensures texts { H.texts host.new ≡ H.texts host.old }
     ensures moments { H.moments host.new ≡ H.moments host.old }
+    ensures larges { H.larges host.new ≡ H.larges host.old }
 {
     let mut link = host.lend();
     let printed = write_all(&mut link.output, line).is_ok();

@@ -17,7 +17,7 @@ pub enum Status {
     Done,
     /// The words are no command.
     Words(Why),
-    /// The text was read and does not compile.
+    /// The text was read and does not compile, or uses what is not built.
     Text,
     /// The host failed, or the source of the text.
     HostFault,

@@ -6,12 +6,13 @@ ghost use Rattle.tow_link.specs.Data.{raised};
 ghost use Rattle.tow_host.specs.Held.{held_of, input_shown, output_shown};
 
 use crate::streams::{Reading, Writing};
+use std::alloc::Global;
 use std::fs::File;
 use std::io::{Stdin, Stdout};
 use std::rt::HostRuntime;
 use std::time::SystemTime;
 use tow_host::{Clock, Host, HostFault, Kept, MemoryClock};
-use tow_link::{Joined, Sink, Source};
+use tow_link::{Joined, Made, Maker, PackMaker, Sink, Source};
 
 /// The last second that a date can show.
 const LAST_SECOND: u64 = 253_402_300_799;
@@ -32,6 +33,7 @@ pub struct SystemHost {
     returned: u64,
     streams: Option<Joined<Reading<Stdin>, Writing<Stdout>>>,
     kept_text: Option<Reading<File>>,
+    maker: PackMaker,
 }
 
 impl Clock for SystemClock {
@@ -78,11 +80,33 @@ impl SystemHost {
             returned: 0,
             streams: Some(Joined { input, output }),
             kept_text: None,
+            maker: PackMaker::new(),
         }
     }
 }
 
+impl Maker for SystemHost {
+    ghost use Rattle.std.proofs.Common.{ap, refl, ◌∙◌};
+    ghost use Rattle.tow_server.specs.declared.system.SystemHost.{SystemHost};
+
+    ghost larges = { λ host pattern. host.maker };
+
+    ghost stays = { λ old new. new ≡ record old { maker = new.maker } };
+
+    fn make(&mut self, alloc: Global, pattern: &[u8]) -> Made {
+        self.maker.make(alloc, pattern)
+    }
+
+    ghost stays_same = { λ host. refl };
+
+    ghost stays_on = { λ first next last one two. two ∙ ap (λ (host : SystemHost). record host { maker = last.maker }) one };
+}
+
 impl Host for SystemHost {
+    ghost use Rattle.std.proofs.Common.{ap, refl};
+    ghost use Rattle.tow_link.specs.Counts.{Counts};
+    ghost use Rattle.tow_server.specs.declared.system.SystemHost.{SystemHost};
+
     type Text = Reading<File>;
 
     type Input = Reading<Stdin>;
@@ -138,6 +162,7 @@ impl Host for SystemHost {
         ensures faults { ⟦<SystemHost as Host>⟧.text_faults self.new ≡ ⟦<SystemHost as Host>⟧.text_faults self.old }
         ensures texts { ⟦<SystemHost as Host>⟧.texts self.new ≡ ⟦<SystemHost as Host>⟧.texts self.old }
         ensures moments { ⟦<SystemHost as Host>⟧.moments self.new ≡ ⟦<SystemHost as Host>⟧.moments self.old }
+        ensures larges { ⟦<SystemHost as Maker>⟧.larges self.new ≡ ⟦<SystemHost as Maker>⟧.larges self.old }
     {
         let Kept { text, streams } = kept;
         if text.is_some() {
@@ -148,4 +173,16 @@ impl Host for SystemHost {
             self.streams = streams;
         }
     }
+
+    ghost stays_held = { λ old new stays. ap (λ (host : SystemHost). held_of ⟦<Reading<File> as Source>⟧.shows ⟦<Reading<Stdin> as Source>⟧.shows ⟦<Writing<Stdout> as Sink>⟧.shows host.kept_text host.returned host.streams) stays };
+
+    ghost stays_home = { λ old new stays. ap (λ (host : SystemHost). is_some host.streams) stays };
+
+    ghost stays_text_faults = { λ old new stays. ap (λ (host : SystemHost). let counts : Counts = record { named = []; others = host.faults } in counts) stays };
+
+    ghost stays_handed = { λ old new stays. ap (λ (host : SystemHost). host.handed) stays };
+
+    ghost stays_texts = { λ old new stays. refl };
+
+    ghost stays_moments = { λ old new stays. refl };
 }

@@ -7,9 +7,10 @@ use crate::status::{Status, Why};
 use std::alloc::{AllocError, Global};
 use std::test::Fail;
 use tow_host::{MemoryClock, MemoryHost, MemoryTexts, NamedText};
-use tow_link::{Joined, MemorySink, MemorySource};
+use tow_link::{Joined, KeyCounts, MemoryMaker, MemorySink, MemorySource};
 
-/// What a host has: the text `t`, the input, cut in two at a place, and the numbers of the calls that fail.
+/// What a host has: the text `t`, the input, cut in two at a place, the patterns that it refuses as too large, and the
+/// numbers of the calls that fail.
 #[derive(Clone, Copy)]
 pub struct Case<'a> {
     text: &'a [u8],
@@ -19,6 +20,7 @@ pub struct Case<'a> {
     failing_text_reads: &'a [u64],
     failing_reads: &'a [u64],
     failing_writes: &'a [u64],
+    pub large_patterns: &'a [&'a [u8]],
 }
 
 pub const HI: &[u8] = b"path('/hi') -> response-code(204)";
@@ -53,6 +55,7 @@ pub fn plain<'a>(text: &'a [u8], input: &'a [u8]) -> Case<'a> {
         failing_text_reads: &[],
         failing_reads: &[],
         failing_writes: &[],
+        large_patterns: &[],
     }
 }
 
@@ -82,13 +85,18 @@ fn host_of(alloc: Global, case: &Case) -> Result<MemoryHost, AllocError>
         output: MemorySink::new(alloc, case.failing_writes.to_vec(alloc)?),
     };
     let failing = case.failing_texts.to_vec(alloc)?;
-    Ok(MemoryHost::new(
+    let mut larges = KeyCounts::new(alloc);
+    for pattern in case.large_patterns {
+        larges.begin(pattern.to_vec(alloc)?)?;
+    }
+    let host = MemoryHost::new(
         alloc,
         MemoryTexts::new(texts),
         streams,
         MemoryClock::fixed(7),
         failing,
-    ))
+    );
+    Ok(host.with_maker(MemoryMaker::new(larges)))
 }
 
 /// The status of these words over such a host, and what was written.
@@ -110,42 +118,74 @@ pub fn answered(
     Ok((status, written))
 }
 
+const TWO: &[u8] =
+    b"path('/a') -> response-code(410)\n\npath('/a') -> response-code(204)\nresponse-code(403)\n";
+
+const SPACED: &[u8] = b"path('/a b') -> response-code(204)";
+
+/// Texts, inputs, and what is written.
+const ANSWERED: [(&[u8], &[u8], &[u8]); 20] = [
+    (HI, GET_HI, HI_ANSWER),
+    (b"", b"GET / HTTP/1.1\r\nHost: a\r\n\r\n", NOT_FOUND),
+    (HI, b"", b""),
+    (HI, b"\r\n", b""),
+    (HI, b"\r\r", b""),
+    (HI, b"GET / HT", BAD),
+    (HI, b"GET /hi HTTP/1.1\r\n\r\n", BAD),
+    (HI, b"GET /hi HTTP/1.1\r\nHost: a\r\nHost: a\r\n\r\n", BAD),
+    (HI, b"GET hi HTTP/1.1\r\nHost: a\r\n\r\n", BAD),
+    (HI, b"GET /hi?x HTTP/1.1\r\nHost: a\r\n\r\n", HI_ANSWER),
+    (SPACED, b"GET /a%20b HTTP/1.1\r\nHost: a\r\n\r\n", HI_ANSWER),
+    (
+        SPACED,
+        b"GET /x/../a%20b HTTP/1.1\r\nHost: a\r\n\r\n",
+        HI_ANSWER,
+    ),
+    (
+        SPACED,
+        b"GET http://h/a%20b HTTP/1.1\r\nHost: a\r\n\r\n",
+        HI_ANSWER,
+    ),
+    (SPACED, b"GET a HTTP/1.1\r\nHost: a\r\n\r\n", BAD),
+    (
+        HI,
+        b"GET /hi HTTP/1.1\r\nHost: a\r\nTransfer-Encoding: gzip, chunked\r\n\r\n",
+        NOT_BUILT,
+    ),
+    (
+        HI,
+        b"GET /hi HTTP/1.1\r\nHost: a\r\nContent-Length: 3\r\nTransfer-Encoding: chunked\r\n\r\n",
+        BAD,
+    ),
+    (
+        HI,
+        b"GET /hi HTTP/1.1\r\nHost: a\r\nContent-Length: 0\r\n\r\n",
+        NOT_BUILT,
+    ),
+    (
+        HI,
+        b"GET /hi HTTP/1.0\r\nHost: a\r\n\r\nGET /hi HTTP/1.1\r\nHost: a\r\n\r\n",
+        NOT_BUILT,
+    ),
+    (
+        TWO,
+        b"GET /a HTTP/1.1\r\nHost: a\r\n\r\n",
+        b"HTTP/1.1 410 Gone\r\ncontent-length: 0\r\ndate: Thu, 01 Jan 1970 00:00:00 GMT\r\n\r\n",
+    ),
+    (
+        b"",
+        b"POST / HTTP/1.1\r\nHost: a\r\n\r\n",
+        b"HTTP/1.1 405 Method Not Allowed\r\nallow: GET, HEAD\r\ncontent-length: 0\r\ndate: Thu, 01 Jan 1970 00:00:00 GMT\r\n\r\n",
+    ),
+];
+
 #[test]
 fn requests_are_answered(rt: HostRuntime) -> Result<(), Fail> {
     let alloc = rt.alloc();
-    let two =
-        b"path('/a') -> response-code(410)\n\npath('/a') -> response-code(204)\nresponse-code(403)\n";
-    let rows: [(&[u8], &[u8], &[u8]); 13] = [
-        (HI, GET_HI, HI_ANSWER),
-        (b"", b"GET / HTTP/1.1\r\nHost: a\r\n\r\n", NOT_FOUND),
-        (HI, b"", b""),
-        (HI, b"\r\n", b""),
-        (HI, b"\r\r", b""),
-        (HI, b"GET / HT", BAD),
-        (HI, b"GET /hi HTTP/1.1\r\n\r\n", BAD),
-        (HI, b"GET /hi HTTP/1.1\r\nHost: a\r\nHost: a\r\n\r\n", BAD),
-        (HI, b"GET hi HTTP/1.1\r\nHost: a\r\n\r\n", BAD),
-        (HI, b"GET /hi?x HTTP/1.1\r\nHost: a\r\n\r\n", NOT_BUILT),
-        (
-            HI,
-            b"GET /hi HTTP/1.0\r\nHost: a\r\n\r\nGET /hi HTTP/1.1\r\nHost: a\r\n\r\n",
-            NOT_BUILT,
-        ),
-        (
-            two,
-            b"GET /a HTTP/1.1\r\nHost: a\r\n\r\n",
-            b"HTTP/1.1 410 Gone\r\ncontent-length: 0\r\ndate: Thu, 01 Jan 1970 00:00:00 GMT\r\n\r\n",
-        ),
-        (
-            b"",
-            b"POST / HTTP/1.1\r\nHost: a\r\n\r\n",
-            b"HTTP/1.1 405 Method Not Allowed\r\nallow: GET, HEAD\r\ncontent-length: 0\r\ndate: Thu, 01 Jan 1970 00:00:00 GMT\r\n\r\n",
-        ),
-    ];
-    for (text, input, want) in rows {
+    for (i, (text, input, want)) in ANSWERED.iter().enumerate() {
         let (status, written) = answered(alloc, &plain(text, input), &ASK)?;
-        assert_eq!(rt; status, Status::Done);
-        assert_eq!(rt; written.as_slice(), want);
+        assert_eq!(rt; status, Status::Done, "row {i}");
+        assert!(rt; written.as_slice() == *want, "row {i}");
     }
     Ok(())
 }
@@ -199,8 +239,11 @@ fn each_cut_gives_the_same_bytes(rt: HostRuntime) -> Result<(), Fail> {
 #[test]
 fn words_are_read(rt: HostRuntime) -> Result<(), Fail> {
     let alloc = rt.alloc();
-    let rows: [(&[&str], Why); 8] = [
+    let rows: [(&[&str], Why); 11] = [
         (&[], Why::NoCommand),
+        (&["drill", "0"], Why::NoCommand),
+        (&["check"], Why::BadWords),
+        (&["check", "t", "u"], Why::BadWords),
         (&["serve", "d", "t", "127.0.0.1:80"], Why::NoCommand),
         (&["ask", "d"], Why::BadWords),
         (&["ask", "d", "t", "--moment"], Why::BadWords),

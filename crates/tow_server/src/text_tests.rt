@@ -14,7 +14,7 @@ fn line_ends(alloc: Global, count: usize) -> Result<Vec<u8>, AllocError> {
 }
 
 /// Texts with a fault, and the line that names it.
-const FAULTS: [(&[u8], &[u8]); 20] = [
+const FAULTS: [(&[u8], &[u8]); 21] = [
     (b"path('/a -> done", b"1:6: UnclosedQuote\n"),
     (b"nosuch(1)", b"1:1: UnknownName\n"),
     (
@@ -38,6 +38,7 @@ const FAULTS: [(&[u8], &[u8]); 20] = [
     (b"true(1) -> done", b"1:6: BadParameter\n"),
     (b"path -> done", b"1:1: BadParameter\n"),
     (b"exists('%z') -> done", b"1:8: BadAttribute\n"),
+    (b"regex('(') -> done", b"1:7: BadPattern\n"),
 ];
 
 /// Whether both commands refuse the text with this line.
@@ -121,11 +122,12 @@ echo
 fn texts_are_checked(rt: HostRuntime) -> Result<(), Fail> {
     let alloc = rt.alloc();
     let deep = deep_text(alloc, 32)?;
-    let rows: [(&[u8], &[u8]); 8] = [
+    let rows: [(&[u8], &[u8]); 9] = [
         (PREDICATES, b"ok 10\n"),
         (HANDLERS, b"ok 12\n"),
         (b"", b"ok 0\n"),
         (HI, b"ok 1\n"),
+        (b"regex(a) -> done", b"ok 1\n"),
         (b"not(true or false)->{}else done", b"ok 1\n"),
         (deep.as_slice(), b"ok 1\n"),
         (
@@ -148,17 +150,34 @@ fn texts_are_checked(rt: HostRuntime) -> Result<(), Fail> {
 #[test]
 fn what_is_not_built_is_refused(rt: HostRuntime) -> Result<(), Fail> {
     let alloc = rt.alloc();
-    let rows: [(&[u8], &[&str]); 4] = [
-        (b"regex(a) -> done", &CHECK),
-        (b"regex(a) -> done", &ASK),
-        (b"method(GET) -> done", &ASK),
-        (b"response-code(204); blocking", &ASK),
-    ];
-    for (text, words) in rows {
-        let (status, written) = answered(alloc, &plain(text, GET_HI), words)?;
+    let rows: [&[u8]; 2] = [b"regex(a) -> echo", b"response-code(204); blocking"];
+    for text in rows {
+        let (status, written) = answered(alloc, &plain(text, GET_HI), &ASK)?;
         assert_eq!(rt; status, Status::Text);
         assert_eq!(rt; written.as_slice(), b"1:1: Unbuilt\n".as_slice());
     }
+    Ok(())
+}
+
+/// What a check of this text prints over a host that refuses these patterns as too large.
+fn checked(alloc: Global, text: &[u8], larges: &[&[u8]]) -> Result<(Status, Vec<u8>), AllocError> {
+    let mut case = plain(text, GET_HI);
+    case.large_patterns = larges;
+    answered(alloc, &case, &CHECK)
+}
+
+#[test]
+fn large_patterns_are_refused(rt: HostRuntime) -> Result<(), Fail> {
+    let alloc = rt.alloc();
+    let text = b"regex(a) -> done".as_slice();
+    assert_eq!(rt;
+        checked(alloc, text, &[b"a"])?,
+        (Status::Text, b"1:7: LargePattern\n".to_vec(alloc)?)
+    );
+    assert_eq!(rt;
+        checked(alloc, text, &[b"b"])?,
+        (Status::Done, b"ok 1\n".to_vec(alloc)?)
+    );
     Ok(())
 }
 
