@@ -1,6 +1,7 @@
 //! The byte streams at the edge of the server: sources that are read, sinks that are written, and forms of both
 //! that stand in memory. Each counts its faults and, where it can tell, shows contracts what was read, what is left
-//! and what was written, so that a promise of the layers above is about these bytes.
+//! and what was written, so that a promise of the layers above is about these bytes. Beside them, makers of patterns, which
+//! count what they refuse as too large.
 #![tactic(auto)]
 
 mod call_numbers;

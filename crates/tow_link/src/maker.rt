@@ -1,4 +1,4 @@
-ghost use Rattle.std.specs.Prelude.{◌≡◌, ℕ, ◌≤◌, List};
+ghost use Rattle.std.specs.Prelude.{◌≡◌, ◌≢◌, ℕ, ◌≤◌, List};
 ghost use Rattle.tow_model.specs.Patterns.{IsGoodPattern};
 ghost use Rattle.tow_link.specs.Data.{Rose};
 ghost use Rattle.tow_link.specs.Making.{IfBuilt, IsRegexOf};
@@ -33,6 +33,7 @@ pub trait Maker {
         ensures syntax { result ≡ Made.Syntax → ¬ (IsGoodPattern pattern.now) }
         ensures large { result ≡ Made.Large → Rose (larges self.old pattern.now) (larges self.new pattern.now) }
         ensures later { (p : List ℕ) → larges self.old p ≤ larges self.new p }
+        ensures only { result ≢ Made.Large → larges self.new ≡ larges self.old }
         ensures stays { stays self.old self.new };
 
     ghost stays_same: { (maker : Self) → stays maker maker };

@@ -7,7 +7,8 @@ use regex::bytes::Regex;
 use std::alloc::Global;
 use std::marker::Model;
 
-/// The maker that builds patterns by `regex`. One count stands for that of every pattern.
+/// The maker that builds patterns by `regex`. One count stands for that of every pattern. It counts as too large also a
+/// pattern that is not UTF-8, which no handlers text has.
 #[derive(Drop)]
 pub struct PackMaker {
     larges: u64,

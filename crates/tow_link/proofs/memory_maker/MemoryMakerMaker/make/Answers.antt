@@ -1,4 +1,4 @@
-use Rattle.std.proofs.Common.{◌≡◌, ℕ, sym}
+use Rattle.std.proofs.Common.{◌≡◌, ℕ, List, [], refl, sym, ap}
 use Rattle.tow_link.specs.Counts.{count_at}
 use Rattle.tow_link.proofs.Raising.{with_others, rose_known, later_known, other_count, later_others}
 use Rattle.tow_link.proofs.memory_maker.MemoryMakerMaker.make.Goals as goal
@@ -22,3 +22,8 @@ returns-clause-large c is =
 pub returns-clause-later : goal.returns-clause-later
 returns-clause-later c p =
     rw (← c.self.view_is, c.if-raise_known.ensures.same) (later_others c.self.inside.larges c.self.inside.pack _ p (c.make.ensures.later p))
+
+pub returns-clause-only : goal.returns-clause-only
+returns-clause-only c isnt =
+    let pack : c.make.new.self ≡ c.self.inside.pack = ap (λ (larges : List ℕ → ℕ). larges []) (c.make.ensures.only isnt) in
+    rw (← c.self.view_is, c.if-raise_known.ensures.same, pack) refl
