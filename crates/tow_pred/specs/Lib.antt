@@ -1,4 +1,5 @@
 pub mod Built
 pub mod Faults
 pub mod Found
+pub mod Memory
 pub mod Numbering

@@ -1,7 +1,7 @@
 //! Building the patterns of a tree.
 
 ghost use Rattle.std.specs.Prelude as prelude;
-ghost use Rattle.std.specs.Prelude.{◌≡◌, ◌≤◌, All, IfOk, IfErr, ℕ, map};
+ghost use Rattle.std.specs.Prelude.{◌≡◌, ◌≢◌, ◌≤◌, All, Err, IfOk, IfErr, ℕ, map};
 ghost use Rattle.tow_model.specs.Patterns.{IsGoodPattern};
 ghost use Rattle.tow_model.specs.Predicates.{AreAmong};
 ghost use Rattle.tow_pred.specs.Faults.{IsFaultOf, IsPatternFault};
@@ -26,6 +26,7 @@ fn build_one<M: Maker>(
     ensures good { IfOk result (λ _. IsGoodPattern found.entry.pattern.now) }
     ensures refused { IfErr result (IsFaultOf found.entry.number found.entry.pattern.now (M.larges maker.old) (M.larges maker.new)) }
     ensures later { (p : prelude.List ℕ) → M.larges maker.old p ≤ M.larges maker.new p }
+    ensures only { ((n : ℕ) → result ≢ Err (PatternFault.LargePattern n)) → M.larges maker.new ≡ M.larges maker.old }
     ensures stays { M.stays maker.old maker.new }
 {
     match maker.make(alloc, found.pattern) {
@@ -47,6 +48,7 @@ fn build_all<M: Maker>(
     ensures good { IfOk result (λ ps. All IsGoodPattern ps) }
     ensures refused { IfErr result (IsPatternFault (map (λ t. t.1) (told found.now)) (M.larges maker.old) (M.larges maker.new)) }
     ensures later { (p : prelude.List ℕ) → M.larges maker.old p ≤ M.larges maker.new p }
+    ensures only { ((n : ℕ) → result ≢ Err (PatternFault.LargePattern n)) → M.larges maker.new ≡ M.larges maker.old }
     ensures stays { M.stays maker.old maker.new }
 {
     let mut patterns = List::new(alloc);
@@ -57,7 +59,8 @@ fn build_all<M: Maker>(
     Ok(patterns)
 }
 
-/// Builds the patterns of a tree. The fault is that of the first one, in the order of the text, that is refused. Takes
+/// Builds the patterns of a tree, in the order of the text. The fault is that of a pattern that is refused; those before it are
+/// in the grammar, and were not refused as too large. Takes
 /// memory for the patterns, and for the time of the call for their places.
 pub fn build<M: Maker>(alloc: Global, tree: &Tree, maker: &mut M) -> Result<Tests, PatternFault>
     requires numbered { IsNumbered tree.now }
@@ -66,6 +69,7 @@ pub fn build<M: Maker>(alloc: Global, tree: &Tree, maker: &mut M) -> Result<Test
     ensures good { IfOk result (λ tests. All IsGoodPattern tests) }
     ensures refused { IfErr result (IsPatternFault (map (λ t. t.1) (tree_patterns tree.now)) (M.larges maker.old) (M.larges maker.new)) }
     ensures later { (p : prelude.List ℕ) → M.larges maker.old p ≤ M.larges maker.new p }
+    ensures only { ((n : ℕ) → result ≢ Err (PatternFault.LargePattern n)) → M.larges maker.new ≡ M.larges maker.old }
     ensures stays { M.stays maker.old maker.new }
 {
     let mut found = Vec::new(alloc);

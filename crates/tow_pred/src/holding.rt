@@ -1,8 +1,10 @@
 //! Predicates.
 
-ghost use Rattle.std.specs.Prelude.{◌≡◌, ◌<◌, IfOk};
+ghost use Rattle.std.specs.Prelude.{◌≡◌, ◌<◌, IfOk, IsTrue};
+ghost use Rattle.std.specs.Result.{is_ok};
 ghost use Rattle.tow_model.specs.Dates.{first_undated};
 ghost use Rattle.tow_model.specs.Predicates.{AreAmong, holds_of, patterns_in};
+ghost use Rattle.tow_pred.specs.Memory.{is_plain};
 
 use crate::scratch::Scratch;
 use crate::testing::passes;
@@ -12,7 +14,8 @@ use tow_model::{NoMemory, Predicate, Record, Request};
 /// Whether the predicate holds of a request and the record of its exchange, from the left to the right; the right side of
 /// `and` and `or` is looked at only where the left one decides nothing. What a test that holds binds stands in the context
 /// from then on, also where the whole does not hold. The moment is in seconds since 1970. Takes memory for the values of
-/// templates and for bindings; where it is short, nothing but the context may have changed.
+/// templates and for bindings; where it is short, nothing but the context may have changed. A
+/// predicate of `true`, `false`, `path`, `path-suffix` and `method` alone takes none.
 pub fn holds(
     alloc: Global,
     scratch: &mut Scratch<'_>,
@@ -27,6 +30,7 @@ pub fn holds(
     ensures scratch { scratch.new ≡ scratch.old }
     ensures rest { state.new ≡ record state.old { context = state.new.context } }
     ensures listeners { state.new.listeners ≡ state.old.listeners }
+    ensures plain { IsTrue (is_plain predicate.now) → IsTrue (is_ok result) }
 {
     match predicate {
         Predicate::Is(test) => passes(alloc, scratch, test, request, state, moment),

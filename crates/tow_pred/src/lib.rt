@@ -3,7 +3,8 @@
 //! record of its exchange.
 //!
 //! - `holding`, `testing`: predicates, and the tests that they are made of
-//! - `paths`, `values`, `templates`, `matching`: the tests of each subject
+//! - `paths`, `values`, `templates`: the tests of each subject
+//! - `finding`, `building`, `patterns`: the tests of `regex` in a tree, and their patterns built
 //! - `context`: what a test that holds binds
 //! - `pattern`, `search`, `scratch`: patterns that were built, and what searches for them
 #![tactic(auto)]

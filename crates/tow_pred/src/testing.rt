@@ -1,10 +1,12 @@
 //! Tests, and what they bind.
 
-ghost use Rattle.std.specs.Prelude.{◌≡◌, ◌<◌, IfOk, IfSome, length, slice_get};
+ghost use Rattle.std.specs.Prelude.{◌≡◌, ◌<◌, IfOk, IfSome, IsTrue, length, slice_get};
 ghost use Rattle.tow_model.specs.Dates.{first_undated};
 ghost use Rattle.tow_model.specs.Patterns.{pattern_bindings};
 ghost use Rattle.tow_model.specs.Predicates.{AreAmong, held, pattern_of, prefix_bindings, test_of};
 ghost use Rattle.tow_model.specs.Values.{value_of};
+ghost use Rattle.tow_pred.specs.Memory.{is_plain_test};
+ghost use Rattle.std.specs.Result.{is_ok};
 
 use crate::context::{bind, bind_all, field};
 use crate::paths::{ends_with_one, is_among, longest_prefix};
@@ -31,6 +33,7 @@ pub(crate) fn passes(
         held (test_of test.now request.now state.old moment) state.old ≡ record { holds = b; state = state.new }) }
     ensures scratch { scratch.new ≡ scratch.old }
     ensures rest { state.new ≡ record state.old { context = state.new.context } }
+    ensures plain { IsTrue (is_plain_test test.now) → IsTrue (is_ok result) }
 {
     match test {
         Test::True => Ok(true),

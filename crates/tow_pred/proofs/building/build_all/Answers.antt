@@ -27,5 +27,6 @@ loop-test-preserved g c = record {
       subst (All IsGoodPattern) (sym c.in_ok-push.ensures.ok)
       (All-push IsGoodPattern c.loop-test.patterns c.in_ok-pattern.pattern c.loop-test.invariant.good (subst IsGoodPattern (sym c.in_ok-pattern.ensures.pattern) c.in_ok-pattern.ensures.good));
   later = λ p. let a = c.loop-test.invariant.later p in let b = c.build_one.ensures.later p in omega (arith, a, b);
+  only = c.in_ok-pattern.ensures.only (λ n is. absurd (cc)) ∙ c.loop-test.invariant.only;
   stays = g.met.M.Maker.stays_on _ _ _ c.loop-test.invariant.stays c.build_one.ensures.stays;
 }

@@ -1,6 +1,7 @@
 use Rattle.std.proofs.Common.{rules}
 use Rattle.tow_model.specs.declared.predicate.Predicate.{the_lemmas}
 use Rattle.tow_pred.proofs.Among.{among_negated, among_both_left, among_both_right, among_either_left, among_either_right}
+use Rattle.tow_pred.proofs.Memories.{plain_both_right, plain_either_right}
 use Rattle.tow_pred.proofs.holding.+holds.Goals as goal
 
 pub holds-requires : goal.holds-requires
@@ -32,3 +33,11 @@ holds-requires-else-branch-2 t c = (
     rw (c.get-else-branch-2.ensures, c.in_ok-holds-in-Or.ensures.scratch) (among_either_right _ _ _ (rw c.in-Or.is at c.requires.among)),
   ),
 )
+
+pub returns-then-branch-clause-plain : goal.returns-then-branch-clause-plain
+returns-then-branch-clause-plain t c is =
+    c.holds-then-branch.ensures.plain (rw c.get-then-branch.ensures (plain_both_right _ _ (rw c.in-And.is at is)))
+
+pub returns-else-branch-2-clause-plain : goal.returns-else-branch-2-clause-plain
+returns-else-branch-2-clause-plain t c is =
+    c.holds-else-branch-2.ensures.plain (rw c.get-else-branch-2.ensures (plain_either_right _ _ (rw c.in-Or.is at is)))
