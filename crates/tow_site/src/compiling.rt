@@ -1,4 +1,5 @@
-ghost use Rattle.std.specs.Prelude.{◌≡◌, ℕ, ◌≤◌, List, length, IfOk, IfErr};
+ghost use Rattle.std.specs.Prelude.{◌≡◌, ◌≢◌, ℕ, ◌≤◌, Err, List, length, IfOk, IfErr};
+ghost use Rattle.tow_model.specs.declared.kind.Kind.TheVariants as kinds;
 ghost use Rattle.tow_site.specs.Compiled.{HasTree, IsSiteOf, IsFaultOf};
 
 use crate::fault::Fault;
@@ -22,6 +23,7 @@ fn build_site<M: Maker>(
     ensures ok { IfOk result (λ site. IsSiteOf text.now site) }
     ensures fault { IfErr result (λ fault. IsFaultOf text.now (M.larges maker.old) (M.larges maker.new) fault) }
     ensures later { (p : List ℕ) → M.larges maker.old p ≤ M.larges maker.new p }
+    ensures only { ((line column : ℕ) → result ≢ Err (Fault.Text kinds.LargePattern line column)) → M.larges maker.new ≡ M.larges maker.old }
     ensures stays { M.stays maker.old maker.new }
 {
     let Parsed { tree, patterns } = parsed;
@@ -40,6 +42,7 @@ pub fn compile<M: Maker>(alloc: Global, text: &[u8], maker: &mut M) -> Result<Si
     ensures ok { IfOk result (λ site. IsSiteOf text.now site) }
     ensures fault { IfErr result (λ fault. IsFaultOf text.now (M.larges maker.old) (M.larges maker.new) fault) }
     ensures later { (p : List ℕ) → M.larges maker.old p ≤ M.larges maker.new p }
+    ensures only { ((line column : ℕ) → result ≢ Err (Fault.Text kinds.LargePattern line column)) → M.larges maker.new ≡ M.larges maker.old }
     ensures stays { M.stays maker.old maker.new }
 {
     let tokens = match tokens(alloc, text) {
