@@ -39,6 +39,7 @@ fn ask_site<H: Host>(
     ensures part { WritesPart site.now.tree (clock_table (H.moments host.old) moment) (H.held host.old).input.told (H.held host.old).output.written (H.held host.new).output.written }
     ensures stream { result ≡ Status.StreamFault → Rose (H.held host.old).input.faults (H.held host.new).input.faults ⊎ Rose (H.held host.old).output.faults (H.held host.new).output.faults }
     ensures ends { (result ≡ Status.Done ⊎ result ≡ Status.StreamFault) ⊎ result ≡ Status.NoMemory }
+    ensures larges { H.larges host.new ≡ H.larges host.old }
     ensures handed { H.handed host.new ≡ H.handed host.old }
     ensures faults { H.text_faults host.new ≡ H.text_faults host.old }
 {
@@ -76,6 +77,7 @@ fn ask_text<H: Host>(
     ensures refused { result ≡ Status.Text → (line : List ℕ) × IsRefusal is_walked loaded.bytes.items (H.larges host.old) (H.larges host.new) line × Prints (H.held host.old).output (H.held host.new).output line }
     ensures input { result ≡ Status.Text → (H.held host.new).input ≡ (H.held host.old).input }
     ensures ends { ((result ≡ Status.Done ⊎ result ≡ Status.StreamFault) ⊎ result ≡ Status.NoMemory) ⊎ result ≡ Status.Text }
+    ensures larges { result ≡ Status.Done → H.larges host.new ≡ H.larges host.old }
     ensures handed { H.handed host.new ≡ H.handed host.old }
     ensures faults { H.text_faults host.new ≡ H.text_faults host.old }
 {
@@ -116,6 +118,7 @@ pub fn run_ask<H: Host>(
         → NothingFailed (H.texts host.old) text.now (H.held host.old) (H.held host.new) (count_at (H.text_faults host.old) text.now) (count_at (H.text_faults host.new) text.now) (H.larges host.old) (H.larges host.new)
         → result ≡ Status.Done ⊎ result ≡ Status.NoMemory }
     ensures text { ((result ≡ Status.Done ⊎ result ≡ Status.StreamFault) ⊎ result ≡ Status.Text) → ReturnsText (H.texts host.old) text.now (H.held host.old) (H.held host.new) }
+    ensures larges { result ≡ Status.Done → H.larges host.new ≡ H.larges host.old }
     ensures words { (why : Why) → result ≢ Status.Words why }
 {
     match load_text(alloc, host, text) {

@@ -30,6 +30,7 @@ fn report_text<H: Host>(alloc: Global, host: &mut H, source: H::Text, statements
     ensures memory { result ≡ Status.NoMemory → LeavesStreams (H.held host.old) (H.held host.new) }
     ensures input { (H.held host.new).input ≡ (H.held host.old).input }
     ensures ends { (result ≡ Status.Done ⊎ result ≡ Status.StreamFault) ⊎ result ≡ Status.NoMemory }
+    ensures larges { H.larges host.new ≡ H.larges host.old }
     ensures handed { H.handed host.new ≡ H.handed host.old }
     ensures faults { H.text_faults host.new ≡ H.text_faults host.old }
 {
@@ -57,6 +58,7 @@ fn check_text<H: Host>(alloc: Global, host: &mut H, loaded: Loaded<H::Text>) -> 
     ensures refused { result ≡ Status.Text → (line : List ℕ) × IsRefusal is_checked loaded.bytes.items (H.larges host.old) (H.larges host.new) line × Prints (H.held host.old).output (H.held host.new).output line }
     ensures input { (H.held host.new).input ≡ (H.held host.old).input }
     ensures ends { ((result ≡ Status.Done ⊎ result ≡ Status.StreamFault) ⊎ result ≡ Status.NoMemory) ⊎ result ≡ Status.Text }
+    ensures larges { result ≡ Status.Done → H.larges host.new ≡ H.larges host.old }
     ensures handed { H.handed host.new ≡ H.handed host.old }
     ensures faults { H.text_faults host.new ≡ H.text_faults host.old }
 {
@@ -84,6 +86,7 @@ pub fn run_check<H: Host>(alloc: Global, host: &mut H, text: &str) -> Status
         → NothingFailed (H.texts host.old) text.now (H.held host.old) (H.held host.new) (count_at (H.text_faults host.old) text.now) (count_at (H.text_faults host.new) text.now) (H.larges host.old) (H.larges host.new)
         → result ≡ Status.Done ⊎ result ≡ Status.NoMemory }
     ensures text { ((result ≡ Status.Done ⊎ result ≡ Status.StreamFault) ⊎ result ≡ Status.Text) → ReturnsText (H.texts host.old) text.now (H.held host.old) (H.held host.new) }
+    ensures larges { result ≡ Status.Done → H.larges host.new ≡ H.larges host.old }
     ensures words { (why : Why) → result ≢ Status.Words why }
 {
     match load_text(alloc, host, text) {

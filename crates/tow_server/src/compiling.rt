@@ -9,6 +9,7 @@ use tow_site::{Fault, Site, compile};
 pub fn compile_text<H: Host>(alloc: Global, host: &mut H, text: &[u8]) -> Result<Site, Fault>
     ensures ok { IfOk result (λ site. IsSiteOf text.now site) }
     ensures fault { IfErr result (λ fault. IsFaultOf text.now (H.larges host.old) (H.larges host.new) fault) }
+    ensures made { IfOk result (λ _. H.larges host.new ≡ H.larges host.old) }
     ensures held { H.held host.new ≡ H.held host.old }
     ensures home { H.is_home host.new ≡ H.is_home host.old }
     ensures faults { H.text_faults host.new ≡ H.text_faults host.old }

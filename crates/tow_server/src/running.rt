@@ -28,6 +28,7 @@ pub fn run<H: Host>(alloc: Global, words: &Vec<String>, host: &mut H) -> Status
     ensures usage { (why : Why) → result ≡ Status.Words why → Prints (H.held host.old).output (H.held host.new).output usage_line }
     ensures usage_input { (why : Why) → result ≡ Status.Words why → (H.held host.new).input ≡ (H.held host.old).input }
     ensures usage_text { (why : Why) → result ≡ Status.Words why → LeavesText (H.held host.old) (H.held host.new) }
+    ensures larges { result ≡ Status.Done → H.larges host.new ≡ H.larges host.old }
     ensures usage_larges { (why : Why) → result ≡ Status.Words why → H.larges host.new ≡ H.larges host.old }
     ensures usage_faults { (why : Why) → result ≡ Status.Words why → H.text_faults host.new ≡ H.text_faults host.old }
     ensures back { H.handed host.old ≡ (H.held host.old).returned → H.handed host.new ≡ (H.held host.new).returned }

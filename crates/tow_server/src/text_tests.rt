@@ -1,7 +1,7 @@
 //! The commands over texts of each kind, with the bytes that are printed written out.
 
 use crate::status::Status;
-use crate::tests::{ASK, CHECK, GET_HI, HI, HI_ANSWER, NOT_FOUND, answered, plain};
+use crate::tests::{ASK, CHECK, Case, GET_HI, HI, HI_ANSWER, NOT_FOUND, answered, plain};
 use std::alloc::{AllocError, Global};
 use std::test::Fail;
 
@@ -14,7 +14,7 @@ fn line_ends(alloc: Global, count: usize) -> Result<Vec<u8>, AllocError> {
 }
 
 /// Texts with a fault, and the line that names it.
-const FAULTS: [(&[u8], &[u8]); 21] = [
+const FAULTS: [(&[u8], &[u8]); 22] = [
     (b"path('/a -> done", b"1:6: UnclosedQuote\n"),
     (b"nosuch(1)", b"1:1: UnknownName\n"),
     (
@@ -39,6 +39,7 @@ const FAULTS: [(&[u8], &[u8]); 21] = [
     (b"path -> done", b"1:1: BadParameter\n"),
     (b"exists('%z') -> done", b"1:8: BadAttribute\n"),
     (b"regex('(') -> done", b"1:7: BadPattern\n"),
+    (b"regex('(') -> echo", b"1:7: BadPattern\n"),
 ];
 
 /// Whether both commands refuse the text with this line.
@@ -159,25 +160,32 @@ fn what_is_not_built_is_refused(rt: HostRuntime) -> Result<(), Fail> {
     Ok(())
 }
 
-/// What a check of this text prints over a host that refuses these patterns as too large.
-fn checked(alloc: Global, text: &[u8], larges: &[&[u8]]) -> Result<(Status, Vec<u8>), AllocError> {
-    let mut case = plain(text, GET_HI);
-    case.large_patterns = larges;
-    answered(alloc, &case, &CHECK)
+/// How a command ends that is given this text over a host that refuses these patterns as too large, and what it prints.
+fn made<'a>(
+    alloc: Global,
+    text: &'a [u8],
+    larges: &'a [&'a [u8]],
+    words: &[&str],
+) -> Result<(Status, Vec<u8>), AllocError> {
+    let case = Case {
+        large_patterns: larges,
+        ..plain(text, GET_HI)
+    };
+    answered(alloc, &case, words)
 }
 
 #[test]
 fn large_patterns_are_refused(rt: HostRuntime) -> Result<(), Fail> {
     let alloc = rt.alloc();
     let text = b"regex(a) -> done".as_slice();
-    assert_eq!(rt;
-        checked(alloc, text, &[b"a"])?,
-        (Status::Text, b"1:7: LargePattern\n".to_vec(alloc)?)
-    );
-    assert_eq!(rt;
-        checked(alloc, text, &[b"b"])?,
-        (Status::Done, b"ok 1\n".to_vec(alloc)?)
-    );
+    for words in [&ASK[..], &CHECK[..]] {
+        let (status, written) = made(alloc, text, &[b"a"], words)?;
+        assert_eq!(rt; status, Status::Text);
+        assert_eq!(rt; written.as_slice(), b"1:7: LargePattern\n".as_slice());
+    }
+    let (status, written) = made(alloc, text, &[b"b"], &CHECK)?;
+    assert_eq!(rt; status, Status::Done);
+    assert_eq!(rt; written.as_slice(), b"ok 1\n".as_slice());
     Ok(())
 }
 
