@@ -13,13 +13,13 @@ use tow_link::{Joined, KeyCounts, MemoryMaker, MemorySink, MemorySource};
 /// numbers of the calls that fail.
 #[derive(Clone, Copy)]
 pub struct Case<'a> {
-    text: &'a [u8],
-    input: &'a [u8],
-    cut: usize,
-    failing_texts: &'a [u64],
-    failing_text_reads: &'a [u64],
-    failing_reads: &'a [u64],
-    failing_writes: &'a [u64],
+    pub text: &'a [u8],
+    pub input: &'a [u8],
+    pub cut: usize,
+    pub failing_texts: &'a [u64],
+    pub failing_text_reads: &'a [u64],
+    pub failing_reads: &'a [u64],
+    pub failing_writes: &'a [u64],
     pub large_patterns: &'a [&'a [u8]],
 }
 
