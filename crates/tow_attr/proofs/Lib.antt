@@ -5,7 +5,6 @@ pub mod Places
 pub mod Spelled
 pub mod Names
 pub mod Signs
-pub mod Blanks
 pub mod Dated
 pub mod Found
 pub mod Cutting

@@ -1,16 +1,16 @@
 //! The cookies of a request: `name=value`, with `;` and blanks between them, in one field line or more (RFC 6265, section 4.2.1).
 
-ghost use Rattle.std.specs.Prelude.{◌≡◌, ◌++◌, ◌==◌, ◌||◌, OnOk, find, flat_map};
+ghost use Rattle.std.specs.Prelude.{◌≡◌, ◌++◌, OnOk, find, flat_map};
 ghost use Rattle.std.specs.Option.{option_copied};
 ghost use Rattle.tow_model.specs.Fields.{bound_to};
-ghost use Rattle.tow_model.specs.Texts.{drop_blanks, skip_blanks, trimmed};
+ghost use Rattle.tow_model.specs.Texts.{trimmed};
 ghost use Rattle.tow_model.specs.Values.{or_empty};
 ghost use Rattle.tow_attr.specs.Finding.{cookie_pieces, cookies_of, is_cookie};
 
 use crate::binding::{name_of, value_of};
 use crate::fields::has_name;
 use std::alloc::AllocError;
-use tow_model::Field;
+use tow_model::{Field, trimmed};
 
 /// Writes the value of the first cookie of the name. Takes memory for the value alone.
 pub(crate) fn append_cookie(
@@ -57,41 +57,4 @@ fn is_cookie(cookie: &[u8], name: &[u8]) -> bool
     ensures { result ≡ is_cookie name.now cookie.now }
 {
     name_of(trimmed(cookie)) == name
-}
-
-/// The text without the blanks around it.
-fn trimmed(text: &[u8]) -> &[u8]
-    ensures { result.now ≡ trimmed text.now }
-{
-    without_blanks_behind(without_blanks_before(text))
-}
-
-fn is_blank(byte: u8) -> bool
-    ensures { result ≡ (byte == 32 || byte == 9) }
-{
-    byte == b' ' || byte == b'\t'
-}
-
-fn without_blanks_before(text: &[u8]) -> &[u8]
-    ensures { result.now ≡ skip_blanks text.now }
-{
-    for (start, byte) in text.iter().enumerate() {
-        if !is_blank(*byte) {
-            return &text[start..];
-        }
-    }
-    b""
-}
-
-fn without_blanks_behind(text: &[u8]) -> &[u8]
-    ensures { result.now ≡ drop_blanks text.now }
-{
-    let mut end = text.len();
-    while end > 0 {
-        if !is_blank(text[end - 1]) {
-            return &text[..end];
-        }
-        end -= 1;
-    }
-    b""
 }

@@ -1,5 +1,7 @@
 -- Blocks are the bytes in pieces, the last one shorter.
+use Rattle.std.specs.Prelude.{true, false, nat_le}
 use Rattle.std.proofs.Common.{◌≡◌, ℕ, zero, suc, ◌<◌, ◌≤◌, List, [], ◌∷◌, ◌++◌, length, take, drop, refl, sym, ap, ap₂, ◌∙◌, subst, arith, length-take, length-drop, take-append-drop, take_all, drop_of_length-le, ◌⊎◌, inl, inr, lit<}
+use Rattle.std.proofs.lemmas.Bool.Decides.{leb_tells}
 use Rattle.tow_model.specs.Answers.{block_size, cut, ArePieces, BlocksAre}
 
 -- more pieces than there are bytes change nothing
@@ -22,31 +24,22 @@ take_all_of a n fits = take_all n a fits
 drop_all_of : (a : List ℕ) (n : ℕ) → length a ≤ n → drop n a ≡ []
 drop_all_of a n fits = drop_of_length-le a fits
 
-le_or_lt : (a b : ℕ) → (a ≤ b) ⊎ (b < a)
-le_or_lt zero b = inl (omega arith)
-le_or_lt (suc a) zero = inr (omega arith)
-le_or_lt (suc a) (suc b) = more (le_or_lt a b)
-  where
-    more : (a ≤ b) ⊎ (b < a) → (suc a ≤ suc b) ⊎ (suc b < suc a)
-    more (inl le) = inl (omega (arith, le))
-    more (inr lt) = inr (omega (arith, lt))
-
 cut_are : (size n : ℕ) (bytes : List ℕ) → 0 < size → length bytes ≤ n → ArePieces size (cut size n bytes) bytes
 cut_are size zero [] some fits = refl
 cut_are size (suc n) [] some fits = refl
 cut_are size zero (x ∷ bytes) some fits = absurd (omega (arith, fits))
 cut_are size (suc n) (x ∷ bytes) some fits =
-    by (le_or_lt (length (x ∷ bytes)) size) (λ shorter. cut_are size n (drop size (x ∷ bytes)) some shorter)
+    by (leb_tells (length (x ∷ bytes)) size) (λ shorter. cut_are size n (drop size (x ∷ bytes)) some shorter)
   where
-    by : (length (x ∷ bytes) ≤ size) ⊎ (size < length (x ∷ bytes))
+    by : ((nat_le (length (x ∷ bytes)) size ≡ true) × (length (x ∷ bytes) ≤ size)) ⊎ ((nat_le (length (x ∷ bytes)) size ≡ false) × (size < length (x ∷ bytes)))
         → (length (drop size (x ∷ bytes)) ≤ n → ArePieces size (cut size n (drop size (x ∷ bytes))) (drop size (x ∷ bytes)))
         → ArePieces size (cut size (suc n) (x ∷ bytes)) (x ∷ bytes)
-    by (inl short) later =
+    by (inl (is, short)) later =
         subst (λ (ps : List (List ℕ)). ArePieces size ps (x ∷ bytes))
         (sym (ap₂ (λ (p : List ℕ) (ps : List (List ℕ)). p ∷ ps) (take_all_of (x ∷ bytes) size short)
         (ap (cut size n) (drop_all_of (x ∷ bytes) size short) ∙ nothing_left size n)))
         (refl, omega arith, short)
-    by (inr long) later =
+    by (inr (is, long)) later =
         let shorter : length (drop size (x ∷ bytes)) ≤ n = omega (arith, length-drop size (x ∷ bytes), some, fits) in
         let left : 0 < length (drop size (x ∷ bytes)) = omega (arith, length-drop size (x ∷ bytes), long) in
         subst (λ (l : List ℕ). ArePieces size (take size (x ∷ bytes) ∷ cut size n (drop size (x ∷ bytes))) l) (take-append-drop size (x ∷ bytes))

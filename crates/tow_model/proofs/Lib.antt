@@ -8,6 +8,7 @@ pub mod WireLemmas
 pub mod DateProofs
 pub mod BlockLemmas
 pub mod SortLemmas
+mod Blanks
 mod HeadExamples
 mod WireExamples
 mod ContentExamples

@@ -1,6 +1,8 @@
 -- No input is read as no stream.
+use Rattle.std.specs.Prelude.{true, false, nat_le}
 use Rattle.std.proofs.Common.{◌≡◌, ℕ, zero, suc, ◌<◌, ◌≤◌, ◌⊎◌, inl, inr, List, [], ◌++◌, length, take, drop, Option, Some, None, refl, sym, ap, ◌∙◌, subst, arith, append_assoc, length-append, length-take, length-drop, take_at, take-append-drop}
 use Rattle.std.proofs.lemmas.List.{append-nil}
+use Rattle.std.proofs.lemmas.Bool.Decides.{leb_tells}
 use Rattle.httparse.specs.Grammar.{RequestHead, print_request, print_blank}
 use Rattle.tow_model.specs.declared.request.Framing.{Framing}
 use Rattle.tow_model.specs.declared.request.Framing.TheVariants.{Empty, Fixed, Chunked}
@@ -25,15 +27,6 @@ gives_of f input (Whole bytes) rest has = (rest, has)
 gives_of f input TooLong rest has = (rest, has)
 gives_of f input Bad rest has = absurd (none_is_bad f has.text has.is_content)
 
-le_or_lt : (a b : ℕ) → (a ≤ b) ⊎ (b < a)
-le_or_lt zero b = inl (omega arith)
-le_or_lt (suc a) zero = inr (omega arith)
-le_or_lt (suc a) (suc b) = more (le_or_lt a b)
-  where
-    more : (a ≤ b) ⊎ (b < a) → (suc a ≤ suc b) ⊎ (suc b < suc a)
-    more (inl le) = inl (omega (arith, le))
-    more (inr lt) = inr (omega (arith, lt))
-
 -- the shorter of two fronts is a front of the longer
 shorter_front : (a b s t : List ℕ) → a ++ s ≡ b ++ t → length a ≤ length b → b ≡ a ++ drop (length a) b
 shorter_front a b s t e fits =
@@ -45,17 +38,17 @@ shorter_front a b s t e fits =
     sym (take-append-drop (length a) b) ∙ ap (λ (l : List ℕ). l ++ drop (length a) b) (sym front)
 
 content_is_there : (f : Framing) (input : List ℕ) → ((c : Option Content) → ¬ (Gives f input c)) → ⊥
-content_is_there f input none = none (Some Bad) (λ more rest given has. by more rest given has (le_or_lt (length has.text) (length input)))
+content_is_there f input none = none (Some Bad) (λ more rest given has. by more rest given has (leb_tells (length has.text) (length input)))
   where
     by : (more rest : List ℕ) (given : Content) (has : HasContent f (input ++ more) given rest)
-        → (length has.text ≤ length input) ⊎ (length input < length has.text) → ⊥
-    by more rest given has (inl fits) =
+        → ((nat_le (length has.text) (length input) ≡ true) × (length has.text ≤ length input)) ⊎ ((nat_le (length has.text) (length input) ≡ false) × (length input < length has.text)) → ⊥
+    by more rest given has (inl (is, fits)) =
         none (Some given) (gives_of f input given (drop (length has.text) input) (record {
           text = has.text;
           is_content = has.is_content;
           joined = shorter_front has.text input rest more (sym has.joined) fits;
         }))
-    by more rest given has (inr longer) =
+    by more rest given has (inr (is, longer)) =
         none None (record {
           more = drop (length input) has.text;
           given = given;

@@ -13,7 +13,7 @@ use Rattle.tow_model.specs.Grammar.{Rest, AtEnd, Mark, SeparatorsThen, Statement
 use Rattle.tow_model.specs.Levels.{PredicateWithin, FactorWithin, StatementWithin, ListWithin}
 use Rattle.tow_model.specs.Syntax.{IsList, IsUnexpected, IsTooDeep}
 use Rattle.tow_model.specs.Fault.{IsFault, line_of, column_of}
-use Rattle.tow_model.proofs.Unique.{After, begins, separates, is_separator, statement_no, list_after, one_predicate, arrow_never, target_not_empty, target_no_when, after_ends, end_closes, meet_next, predicate_starts, starts, predicate_not_empty, ElseThen, call_no_keyword, two_words}
+use Rattle.tow_model.proofs.Unique.{After, begins, separates, is_separator, statement_no, list_after, one_predicate, arrow_never, target_not_empty, target_no_when, after_ends, end_closes, meet_next, predicate_begins, separator_begins_nothing, predicate_not_empty, ElseThen, call_no_keyword, two_words}
 
 -- no list begins with a sign that begins no statement and separates none
 pub list_no : (raw : RawList) (g : Sign) → begins g ≡ false → separates g ≡ false → (x : Symbol) (xs : List Symbol) → x.sign ≡ g → ListThen raw AtEnd (x ∷ xs) → ⊥
@@ -39,24 +39,7 @@ arrow_end p (when_else q t u) raw xs a b =
     target_not_empty t _ (subst (TargetThen t (ElseThen u (After (ends_in_brace u) raw AtEnd))) m.1 m.2)
 
 predicate_dark : (p : RawPredicate) (L : Rest) (x : Symbol) (xs : List Symbol) → PredicateThen p L (x ∷ xs) → separates x.sign ≡ true → ⊥
-predicate_dark p L x xs a on = apart x.sign (predicate_starts p L x xs a) on
-  where
-    apart : (g : Sign) → starts g ≡ true → separates g ≡ true → ⊥
-    apart (word bytes) e f = cc
-    apart (quoted bytes) e f = cc
-    apart (mark Newline) e f = cc
-    apart (mark Semi) e f = cc
-    apart (mark Comma) e f = cc
-    apart (mark Equals) e f = cc
-    apart (mark OpenRound) e f = cc
-    apart (mark CloseRound) e f = cc
-    apart (mark OpenSquare) e f = cc
-    apart (mark CloseSquare) e f = cc
-    apart (mark OpenBrace) e f = cc
-    apart (mark CloseBrace) e f = cc
-    apart (mark Arrow) e f = cc
-    apart (mark Quoted) e f = cc
-    apart (mark Word) e f = cc
+predicate_dark p L x xs a on = separator_begins_nothing x.sign on (predicate_begins p L x xs a)
 
 pub arrow_no_list : (p : RawPredicate) (raw : RawList) (xs : List Symbol) → PredicateThen p (Mark Arrow AtEnd) xs → ListThen raw AtEnd xs → ⊥
 arrow_no_list p raw [] a b = predicate_not_empty p _ a

@@ -383,7 +383,7 @@ factor_begins (test c) L x xs a = call_begins c L x xs a
 factor_begins (negated f) L x xs a = ap begins a.0
 factor_begins (grouped p) L x xs a = ap begins a.0
 
-predicate_begins : (p : RawPredicate) (L : Rest) (x : Symbol) (xs : List Symbol) → PredicateThen p L (x ∷ xs) → begins x.sign ≡ true
+pub predicate_begins : (p : RawPredicate) (L : Rest) (x : Symbol) (xs : List Symbol) → PredicateThen p L (x ∷ xs) → begins x.sign ≡ true
 predicate_begins (alone (single f)) L x xs a = factor_begins f _ x xs a
 predicate_begins (alone (and_more f c)) L x xs a = factor_begins f _ x xs a
 predicate_begins (or_more (single f) p) L x xs a = factor_begins f _ x xs a
@@ -439,25 +439,26 @@ meet_separator L M xs (inl a) (inr b) = absurd (two_marks Newline Semi L M xs (�
 meet_separator L M xs (inr a) (inl b) = absurd (two_marks Semi Newline L M xs (λ e. cc) a b)
 meet_separator L M xs (inr a) (inr b) = meet_next (mark Semi) L M xs a b
 
+-- a sign that separates statements begins none
+pub separator_begins_nothing : (g : Sign) → separates g ≡ true → begins g ≡ true → ⊥
+separator_begins_nothing (word bytes) e f = cc
+separator_begins_nothing (quoted bytes) e f = cc
+separator_begins_nothing (mark Newline) e f = cc
+separator_begins_nothing (mark Semi) e f = cc
+separator_begins_nothing (mark Comma) e f = cc
+separator_begins_nothing (mark Equals) e f = cc
+separator_begins_nothing (mark OpenRound) e f = cc
+separator_begins_nothing (mark CloseRound) e f = cc
+separator_begins_nothing (mark OpenSquare) e f = cc
+separator_begins_nothing (mark CloseSquare) e f = cc
+separator_begins_nothing (mark OpenBrace) e f = cc
+separator_begins_nothing (mark CloseBrace) e f = cc
+separator_begins_nothing (mark Arrow) e f = cc
+separator_begins_nothing (mark Quoted) e f = cc
+separator_begins_nothing (mark Word) e f = cc
+
 pub statement_never : (s : RawStatement) (L : Rest) → Never separates (StatementThen s L)
-statement_never s L x xs on a = apart x.sign on (statement_begins s L x xs a)
-  where
-    apart : (g : Sign) → separates g ≡ true → begins g ≡ true → ⊥
-    apart (word bytes) e f = cc
-    apart (quoted bytes) e f = cc
-    apart (mark Newline) e f = cc
-    apart (mark Semi) e f = cc
-    apart (mark Comma) e f = cc
-    apart (mark Equals) e f = cc
-    apart (mark OpenRound) e f = cc
-    apart (mark CloseRound) e f = cc
-    apart (mark OpenSquare) e f = cc
-    apart (mark CloseSquare) e f = cc
-    apart (mark OpenBrace) e f = cc
-    apart (mark CloseBrace) e f = cc
-    apart (mark Arrow) e f = cc
-    apart (mark Quoted) e f = cc
-    apart (mark Word) e f = cc
+statement_never s L x xs on a = separator_begins_nothing x.sign on (statement_begins s L x xs a)
 
 -- what may stand behind a list: nothing, or a closing brace
 abbrev pub Closing : Rest → Type 0

@@ -73,7 +73,7 @@ has_wrong_coding h =
 abbrev pub is_wrong : RequestHead → Bool
 is_wrong h = has_wrong_host h || has_wrong_target h || has_wrong_length (fields_of h) || has_wrong_coding h
 
--- a coding stands before `chunked`
+-- there is more than one coding
 abbrev pub is_coded : List Field → Bool
 is_coded fields = nat_lt 1 (length (codings_of fields))
 

@@ -1,5 +1,5 @@
 -- Patterns: what a text matches and binds, in the words of `regex` over bytes.
-use Rattle.std.specs.Prelude.{ℕ, false, List, length, map, Option, option_map, option_and_then, decimal}
+use Rattle.std.specs.Prelude.{ℕ, false, IsUtf8, List, length, map, Option, option_map, option_and_then, decimal}
 use Rattle.std.specs.List.{range_with_len}
 use Rattle.std.specs.Str.{chars}
 use Rattle.regex.specs.Patterns.{Match, Config, default_config, find}
@@ -14,9 +14,9 @@ use Rattle.tow_model.specs.Fields.{field}
 abbrev pub over_bytes : Config
 over_bytes = record default_config { utf8 = false }
 
--- the pattern is in the grammar of `regex`, and is not nested deeper than that allows
+-- the pattern is UTF-8, is in the grammar of `regex`, and is not nested deeper than that allows
 abbrev pub IsGoodPattern : Text → Type 0
-IsGoodPattern pattern = IsPattern over_bytes pattern
+IsGoodPattern pattern = IsUtf8 pattern × IsPattern over_bytes pattern
 
 -- the groups of a match by their numbers, group 0 being the whole match; one that took no part is empty
 abbrev pub groups : ℕ → Text → Match → List Field

@@ -20,6 +20,7 @@ pub mod request;
 pub mod statement;
 pub mod table;
 pub mod token;
+pub mod trimming;
 
 pub use account::{Account, Bound, Call, End, Line, Role, Verdict, What};
 pub use action::{Action, Target};
@@ -37,3 +38,4 @@ pub use request::{Field, Framing, Request, Version};
 pub use statement::{Statement, Tree};
 pub use table::{Given, Handler, Shape, TestName};
 pub use token::{Token, TokenKind};
+pub use trimming::trimmed;

@@ -1,4 +1,3 @@
-mod Blanks
 mod Deciding
 pub mod Fronts
 mod Lengths

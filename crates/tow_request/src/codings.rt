@@ -9,9 +9,9 @@ ghost use Rattle.tow_model.specs.Heads.{codings_of};
 ghost use Rattle.tow_request.specs.Lines.{elements_in, field_at, fields_at};
 ghost use Rattle.tow_request.specs.Refusals.{Sums};
 
-use crate::elements::trimmed;
 use crate::fields::has_name;
 use httparse::spans::HeaderSpan;
+use tow_model::trimmed;
 
 /// What is known of a list of codings.
 #[derive(Clone, Copy)]

@@ -1,16 +1,17 @@
 //! The elements of list fields: what stands between commas, without the blanks around it (RFC 9110, section 5.6.1).
 
-ghost use Rattle.std.specs.Prelude.{◌≡◌, ◌==◌, ◌&&◌, ◌||◌, [], ◌∷◌, All, length, not};
+ghost use Rattle.std.specs.Prelude.{◌≡◌, ◌&&◌, [], ◌∷◌, All, length, not};
 ghost use Rattle.std.specs.List.{list_any};
 ghost use Rattle.std.specs.Str.{bytes_eq};
 ghost use Rattle.http_header.specs.Token.{lowercase};
 ghost use Rattle.httparse.specs.Spans.{IsHeaderWithin};
 ghost use Rattle.tow_model.specs.Fields.{elements, values_of};
-ghost use Rattle.tow_model.specs.Texts.{drop_blanks, is_empty, skip_blanks, trimmed};
+ghost use Rattle.tow_model.specs.Texts.{is_empty, trimmed};
 ghost use Rattle.tow_request.specs.Lines.{elements_in, field_at, fields_at};
 
 use crate::fields::has_name;
 use httparse::spans::HeaderSpan;
+use tow_model::trimmed;
 
 /// Whether some line of the name lists the word, both in any case.
 pub(crate) fn has_listed(bytes: &[u8], lines: &[HeaderSpan], name: &[u8], word: &[u8]) -> bool
@@ -49,41 +50,4 @@ fn is_element(piece: &[u8], word: &[u8]) -> bool
 {
     let element = trimmed(piece);
     !element.is_empty() && word.eq_ignore_ascii_case(element)
-}
-
-/// The text without the blanks around it.
-pub(crate) fn trimmed(text: &[u8]) -> &[u8]
-    ensures { result.now ≡ trimmed text.now }
-{
-    without_blanks_behind(without_blanks_before(text))
-}
-
-fn is_blank(byte: u8) -> bool
-    ensures { result ≡ (byte == 32 || byte == 9) }
-{
-    byte == b' ' || byte == b'\t'
-}
-
-fn without_blanks_before(text: &[u8]) -> &[u8]
-    ensures { result.now ≡ skip_blanks text.now }
-{
-    for (start, byte) in text.iter().enumerate() {
-        if !is_blank(*byte) {
-            return &text[start..];
-        }
-    }
-    b""
-}
-
-fn without_blanks_behind(text: &[u8]) -> &[u8]
-    ensures { result.now ≡ drop_blanks text.now }
-{
-    let mut end = text.len();
-    while end > 0 {
-        if !is_blank(text[end - 1]) {
-            return &text[..end];
-        }
-        end -= 1;
-    }
-    b""
 }

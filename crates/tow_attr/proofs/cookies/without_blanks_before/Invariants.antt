@@ -1,6 +1,0 @@
-use Rattle.std.proofs.Common.{◌≡◌, drop}
-use Rattle.tow_model.specs.Texts.{skip_blanks}
-use Rattle.tow_attr.proofs.cookies.without_blanks_before.Given as goal
-
-abbrev pub invariant-loop-start : goal.invariant-loop-start
-invariant-loop-start l = skip_blanks l.text ≡ skip_blanks (drop l.start l.text)
