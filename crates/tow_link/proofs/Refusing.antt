@@ -23,4 +23,4 @@ depth_of found = found.0.depth
 -- a text that is refused, and not for memory, is no pattern
 pub refused_is_bad : (text : List ℕ) (kind : ErrorKind) → Refuses over_bytes text kind → kind ≢ OutOfMemory → IsGoodPattern text → ⊥
 unfolding Refuses Reads
-refused_is_bad text kind why known good = clash depth_of (read over_bytes (chars text)) kind _ _ _ _ why known good.2
+refused_is_bad text kind why known good = clash depth_of (read over_bytes (chars text)) kind _ _ _ _ why known good.1.2

@@ -11,7 +11,7 @@ use std::alloc::Global;
 pub enum Made {
     /// What searches for it.
     Built(Regex),
-    /// It is not in the grammar of `regex`, or is nested deeper than that allows.
+    /// It is not UTF-8, is not in the grammar of `regex`, or is nested deeper than that allows.
     Syntax,
     /// The maker refused it as too large, and counted that under the pattern.
     Large,

@@ -1,5 +1,9 @@
-ghost use Rattle.std.specs.Prelude.{◌≡◌, ⊤};
+ghost use Rattle.std.specs.Prelude.{◌≡◌, ◌≢◌, ℕ, ◌≤◌, IsNone, IsSome, List, ⊤};
+ghost use Rattle.tow_model.specs.Patterns.{IsGoodPattern};
 ghost use Rattle.tow_link.specs.Counts.{count_at};
+ghost use Rattle.tow_link.specs.Data.{Rose};
+ghost use Rattle.tow_link.specs.Entries.{entry_at};
+ghost use Rattle.tow_link.specs.Making.{IfBuilt, IsRegexOf};
 
 use crate::{KeyCounts, Made, Maker, PackMaker};
 use std::alloc::Global;
@@ -44,7 +48,16 @@ impl Maker for MemoryMaker {
 
     ghost stays = { λ old new. ⊤ };
 
-    fn make(&mut self, alloc: Global, pattern: &[u8]) -> Made {
+    fn make(&mut self, alloc: Global, pattern: &[u8]) -> Made
+        ensures built { IfBuilt result (IsRegexOf pattern.now) }
+        ensures good { IfBuilt result (λ _. IsGoodPattern pattern.now) }
+        ensures syntax { result ≡ Made.Syntax → ¬ (IsGoodPattern pattern.now) }
+        ensures large { result ≡ Made.Large → Rose (count_at self.old pattern.now) (count_at self.new pattern.now) }
+        ensures later { (p : List ℕ) → count_at self.old p ≤ count_at self.new p }
+        ensures only { result ≢ Made.Large → count_at self.new ≡ count_at self.old }
+        ensures listed { IsSome (entry_at self.old.named pattern.now) → result ≡ Made.Large }
+        ensures unlisted { IsNone (entry_at self.old.named pattern.now) → self.new.named ≡ self.old.named }
+    {
         if self.larges.raise_known(pattern) {
             return Made::Large;
         }

@@ -7,8 +7,7 @@ use regex::bytes::Regex;
 use std::alloc::Global;
 use std::marker::Model;
 
-/// The maker that builds patterns by `regex`. One count stands for that of every pattern. It counts as too large also a
-/// pattern that is not UTF-8, which no handlers text has.
+/// The maker that builds patterns by `regex`. One count stands for that of every pattern.
 #[derive(Drop)]
 pub struct PackMaker {
     larges: u64,
@@ -55,7 +54,7 @@ impl Maker for PackMaker {
 
     fn make(&mut self, alloc: Global, pattern: &[u8]) -> Made {
         let Ok(text) = str::from_utf8(pattern) else {
-            return self.refuse();
+            return Made::Syntax;
         };
         match Regex::new(alloc, text) {
             Ok(regex) => Made::Built(regex),

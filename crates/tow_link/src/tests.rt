@@ -152,8 +152,13 @@ const TOO_BIG: &[u8] = b"(a{1000}){1000}";
 fn patterns_are_built_or_refused(rt: HostRuntime) -> Result<(), Fail> {
     let mut maker = PackMaker::new();
     assert_eq!(rt;
-        makes(rt.alloc(), &mut maker, &[b"a(b|c)*", b"(", TOO_BIG])?.as_slice(),
-        ["built", "syntax", "large"].as_slice()
+        makes(
+            rt.alloc(),
+            &mut maker,
+            &[b"a(b|c)*", b"(", b"a\xff", TOO_BIG]
+        )?
+        .as_slice(),
+        ["built", "syntax", "syntax", "large"].as_slice()
     );
     assert_eq!(rt; maker.larges(), 1);
     Ok(())

@@ -4,11 +4,8 @@ use Rattle.tow_model.specs.Patterns.{over_bytes, IsGoodPattern}
 use Rattle.tow_link.proofs.Refusing.{refused_is_bad}
 use Rattle.tow_link.proofs.pack_maker.PackMakerMaker.make.Goals as goal
 
-pub returns-in_default-clause-later : goal.returns-in_default-clause-later
-returns-in_default-clause-later c p = c.refuse.ensures.later
-
 pub returns-in-Err-CompiledTooBig-clause-later : goal.returns-in-Err-CompiledTooBig-clause-later
-returns-in-Err-CompiledTooBig-clause-later c p = c.refuse-in-Err-CompiledTooBig.ensures.later
+returns-in-Err-CompiledTooBig-clause-later c p = c.refuse.ensures.later
 
 pub returns-in-Err-Syntax-clause-syntax : goal.returns-in-Err-Syntax-clause-syntax
 returns-in-Err-Syntax-clause-syntax c is good =
