@@ -14,6 +14,6 @@ mod text;
 
 pub use prefix::is_prefix;
 pub use resolving::resolve;
-pub use target::{Target3986, read_target};
+pub use target::{Target3986, has_form, read_target};
 pub use template::{Bind, template_bind};
 pub use tow_model::{Bytes, Field, List, NoMemory, Segment};

@@ -1,10 +1,10 @@
 //! What a request's target names (RFC 9112, section 3.2).
 
-ghost use Rattle.std.specs.Prelude.{◌≡◌, IfOk, None, codes, if◌then◌else◌};
-ghost use Rattle.std.specs.Str.{byte};
+ghost use Rattle.std.specs.Prelude.{◌≡◌, ◌&&◌, IfOk, None, codes, is_some, if◌then◌else◌};
+ghost use Rattle.std.specs.Str.{byte, bytes_eq};
 ghost use Rattle.percent_encoding.specs.Percent as percent;
 ghost use Rattle.tow_model.specs.Paths as paths;
-ghost use Rattle.tow_model.specs.Paths.{resolved};
+ghost use Rattle.tow_model.specs.Paths.{place_of, resolved};
 ghost use Rattle.tow_model.specs.Texts as texts;
 ghost use Rattle.tow_model.specs.Texts.{is_empty};
 ghost use Rattle.tow_path.specs.Told.{IsResolved, Names, Reads};
@@ -86,6 +86,13 @@ fn parts_of_server(alloc: Global) -> Result<Target3986, NoMemory>
     })
 }
 
+/// Whether the target is `*` with OPTIONS (RFC 9112, section 3.2.4).
+fn is_server(method: &[u8], target: &[u8]) -> bool
+    ensures { result ≡ (bytes_eq target.now (codes "*") && bytes_eq method.now (codes "OPTIONS")) }
+{
+    target == b"*".as_slice() && method == b"OPTIONS".as_slice()
+}
+
 /// What the target names. The answer is never `NoMemory`.
 fn find_parts(alloc: Global, method: &[u8], target: &[u8]) -> Result<Target3986, NoMemory>
     ensures { IfOk result (λ parts. Reads method.now target.now parts) }
@@ -93,7 +100,7 @@ fn find_parts(alloc: Global, method: &[u8], target: &[u8]) -> Result<Target3986,
     if target.starts_with(b"/") {
         return parts_of(alloc, target);
     }
-    if target == b"*".as_slice() && method == b"OPTIONS".as_slice() {
+    if is_server(method, target) {
         return parts_of_server(alloc);
     }
     match absolute_part(target) {
@@ -110,6 +117,13 @@ fn target_of(alloc: Global, method: &[u8], target: &[u8]) -> Target3986
         Ok(parts) => parts,
         Err(_) => Target3986::NoMemory,
     }
+}
+
+/// Whether the target has a form that is served: `read_target` answers `Bad` just where it has none. Takes no memory.
+pub fn has_form(method: &[u8], target: &[u8]) -> bool
+    ensures { result ≡ is_some (place_of method.now target.now) }
+{
+    target.starts_with(b"/") || is_server(method, target) || absolute_part(target).is_some()
 }
 
 /// Reads a target, which is an origin-form, an absolute-form with `http` or `https` in any case and an authority that is

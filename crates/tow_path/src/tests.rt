@@ -1,7 +1,8 @@
 //! Paths, targets, prefixes and templates written by hand, and what is read of them.
 
 use crate::{
-    Bind, Bytes, Field, List, Segment, Target3986, is_prefix, read_target, resolve, template_bind,
+    Bind, Bytes, Field, List, Segment, Target3986, has_form, is_prefix, read_target, resolve,
+    template_bind,
 };
 use std::alloc::{AllocError, Global};
 use std::process::Abort;
@@ -80,14 +81,17 @@ fn is_query(query: &Option<Bytes>, wanted: Option<&[u8]>) -> bool {
 fn is_read(alloc: Global, target: &[u8], wanted: Parts<'_>) -> bool {
     match read_target(alloc, b"GET", target) {
         Target3986::Parts { url, path, query } => {
-            url.as_slice() == wanted.0 && path.as_slice() == wanted.1 && is_query(&query, wanted.2)
+            has_form(b"GET", target)
+                && url.as_slice() == wanted.0
+                && path.as_slice() == wanted.1
+                && is_query(&query, wanted.2)
         }
         Target3986::Bad | Target3986::NoMemory => false,
     }
 }
 
 fn is_bad(alloc: Global, method: &[u8], target: &[u8]) -> bool {
-    matches!(read_target(alloc, method, target), Target3986::Bad)
+    !has_form(method, target) && matches!(read_target(alloc, method, target), Target3986::Bad)
 }
 
 /// Targets of GET and their parts.
@@ -133,6 +137,7 @@ fn reads_targets(rt: HostRuntime) {
 
 #[test]
 fn reads_the_whole_server(rt: HostRuntime) {
+    assert!(rt; has_form(b"OPTIONS", b"*"));
     match read_target(rt.alloc(), b"OPTIONS", b"*") {
         Target3986::Parts { url, path, query } => {
             assert_eq!(rt; url.as_slice(), b"*".as_slice());

@@ -1,5 +1,5 @@
 -- How the tests of a head come to its status, and what is copied of it to its request.
-use Rattle.std.proofs.Common.{◌≡◌, ℕ, Bool, true, false, ◌||◌, List, take, Option, Some, None, if◌then◌else◌, codes, refl, sym, ap, ◌∙◌}
+use Rattle.std.proofs.Common.{◌≡◌, ℕ, Bool, true, false, not, ◌||◌, List, take, Option, Some, None, is_some, is_none, if◌then◌else◌, codes, refl, sym, ap, ◌∙◌}
 use Rattle.httparse.specs.Grammar.{RequestHead}
 use Rattle.httparse.specs.Spans.{IsRequestAt}
 use Rattle.httparse.specs.declared.spans.HeaderSpan.{HeaderSpan}
@@ -11,7 +11,6 @@ use Rattle.tow_model.specs.Texts.{Text}
 use Rattle.tow_model.specs.Fields.{values_of, elements}
 use Rattle.tow_model.specs.Paths.{Place, place_of}
 use Rattle.tow_model.specs.Heads.{fields_of, has_wrong_host, has_wrong_target, has_wrong_length, has_wrong_coding, is_coded, refusal, framing_of, expects_by, keeps, request_of}
-use Rattle.tow_model.proofs.Resolving.{neither}
 use Rattle.tow_request.specs.Lines.{fields_at}
 use Rattle.tow_request.specs.Refusals.{wrong_fields, version_by}
 use Rattle.tow_request.proofs.Spans.{same_fields}
@@ -41,6 +40,19 @@ by_rest : (host target len coding coded : Bool) → (host || len || coding) ≡ 
 by_rest true target len coding coded right is = absurd (cc)
 by_rest false target len coding coded right is = rw (is, right) refl
 
+by_none : (host target len coding coded : Bool) → status_by host target len coding coded ≡ None → (target ≡ false) × (len ≡ false)
+by_none true target len coding coded served = absurd (cc)
+by_none false true len coding coded served = absurd (cc)
+by_none false false true coding coded served = absurd (cc)
+by_none false false false coding coded served = (refl, refl)
+
+without_some : (o : Option Place) (t : Bool) → is_some o ≡ t → is_none o ≡ not t
+without_some None t is = ap not is
+without_some (Some place) t is = ap not is
+
+wrong_target : (h : RequestHead) (method target : Text) (t : Bool) → method ≡ h.method → target ≡ h.target → is_some (place_of method target) ≡ t → has_wrong_target h ≡ not t
+wrong_target h method target t m g is = without_some (place_of h.method h.target) t (rw (m, g) at is)
+
 -- a head is refused for its fields,
 pub refused_by_fields : (bytes : List ℕ) (headers : List HeaderSpan) (r : RequestSpans) (h : RequestHead) → IsRequestAt bytes headers r h
     → wrong_fields r.version (fields_at bytes (take r.headers headers)) ≡ true → refusal h ≡ Some 400
@@ -48,22 +60,27 @@ refused_by_fields bytes headers r h at is =
     by_fields (has_wrong_host h) (has_wrong_target h) (has_wrong_length (fields_of h)) (has_wrong_coding h) (is_coded (fields_of h)) (sym (wrong_is bytes headers r h at) ∙ is)
 
 -- for its target,
-pub refused_by_target : (h : RequestHead) (method target : Text) → method ≡ h.method → target ≡ h.target → place_of method target ≡ None → refusal h ≡ Some 400
+pub refused_by_target : (h : RequestHead) (method target : Text) → method ≡ h.method → target ≡ h.target → is_some (place_of method target) ≡ false → refusal h ≡ Some 400
 refused_by_target h method target m t none =
-    let named : place_of h.method h.target ≡ None = rw (m, t) at none in
-    by_target (has_wrong_host h) (has_wrong_target h) (has_wrong_length (fields_of h)) (has_wrong_coding h) (is_coded (fields_of h)) (rw named refl)
+    by_target (has_wrong_host h) (has_wrong_target h) (has_wrong_length (fields_of h)) (has_wrong_coding h) (is_coded (fields_of h)) (wrong_target h method target false m t none)
 
 -- or for its codings alone
-pub refusal_by_codings : (bytes : List ℕ) (headers : List HeaderSpan) (r : RequestSpans) (h : RequestHead) (place : Place) → IsRequestAt bytes headers r h
-    → wrong_fields r.version (fields_at bytes (take r.headers headers)) ≡ false → place_of h.method h.target ≡ Some place
+pub refusal_by_codings : (bytes : List ℕ) (headers : List HeaderSpan) (r : RequestSpans) (h : RequestHead) (method target : Text) → IsRequestAt bytes headers r h
+    → wrong_fields r.version (fields_at bytes (take r.headers headers)) ≡ false → method ≡ h.method → target ≡ h.target → is_some (place_of method target) ≡ true
     → refusal h ≡ (if is_coded (fields_at bytes (take r.headers headers)) then Some 501 else None)
-refusal_by_codings bytes headers r h place at right named =
+refusal_by_codings bytes headers r h method target at right m t named =
     by_rest (has_wrong_host h) (has_wrong_target h) (has_wrong_length (fields_of h)) (has_wrong_coding h) (is_coded (fields_of h))
-    (sym (wrong_is bytes headers r h at) ∙ right) (rw named refl)
+    (sym (wrong_is bytes headers r h at) ∙ right) (wrong_target h method target true m t named)
     ∙ ap (λ fs. if is_coded fs then Some 501 else None) (sym (same_fields bytes headers r h at))
 
-pub right_length : (minor : ℕ) (fields : List Field) → wrong_fields minor fields ≡ false → has_wrong_length fields ≡ false
-right_length minor fields right = (neither _ _ (neither _ _ right).0).1
+-- a served head has a target of some form, and a right length
+served_parts : (h : RequestHead) → refusal h ≡ None → (has_wrong_target h ≡ false) × (has_wrong_length (fields_of h) ≡ false)
+served_parts h served =
+    by_none (has_wrong_host h) (has_wrong_target h) (has_wrong_length (fields_of h)) (has_wrong_coding h) (is_coded (fields_of h)) served
+
+pub right_length : (bytes : List ℕ) (headers : List HeaderSpan) (r : RequestSpans) (h : RequestHead) → IsRequestAt bytes headers r h → refusal h ≡ None
+    → has_wrong_length (fields_at bytes (take r.headers headers)) ≡ false
+right_length bytes headers r h at served = ap has_wrong_length (same_fields bytes headers r h at) ∙ (served_parts h served).1
 
 -- the target names the place for the head too
 pub same_place : (h : RequestHead) (method target : Text) (place : Place) → method ≡ h.method → target ≡ h.target → place_of method target ≡ Some place

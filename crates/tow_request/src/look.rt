@@ -7,7 +7,7 @@ ghost use Rattle.tow_model.specs.Stream.{IsBlank, IsNoRequest};
 ghost use Rattle.tow_request.specs.NextHead.{FindsHead, Tells};
 
 use crate::NextHead;
-use crate::refusals::{is_coded, is_wrong};
+use crate::refusals::refusal_of;
 use crate::requests::{Place, copied_request};
 use httparse::spans::{EMPTY_HEADER_SPAN, HeaderSpan, RequestSpans, parse_request};
 use httparse::{Error, Status};
@@ -21,8 +21,7 @@ const MOST_BYTES: usize = 65536;
 const MOST_LINES: usize = 200;
 
 /// Looks for a head at the front of an input, of which `bytes` have come; `ended` says that there are no more.
-/// Takes memory for what the request keeps. A head that is refused takes none, but for the parts of its target where a coding
-/// stands before `chunked`.
+/// Takes memory for what the request keeps; a head that is refused takes none.
 pub fn next_head(alloc: Global, bytes: &[u8], ended: bool, peer: u32) -> NextHead
     requires { length bytes.now ≤ 65536 }
     ensures tells { Tells bytes.now ended peer result }
@@ -68,22 +67,18 @@ fn look_at(
     ensures tells { (ended : Bool) → Tells bytes.now ended peer result }
     ensures found { FindsHead bytes.now peer result }
 {
-    let lines = &headers[..head.headers];
-    if is_wrong(bytes, lines, head.version) {
-        return NextHead::Refuse(400);
+    if let Some(status) = refusal_of(bytes, headers, head) {
+        return NextHead::Refuse(status);
     }
     match read_target(alloc, head.method.of(bytes), head.path.of(bytes)) {
         Target3986::Parts { url, path, query } => {
-            if is_coded(bytes, lines) {
-                return NextHead::Refuse(501);
-            }
             let place = Place { url, path, query };
             match copied_request(alloc, bytes, headers, head, place, peer) {
                 Ok(request) => NextHead::Head(request, head.len),
                 Err(_) => NextHead::NoMemory,
             }
         }
-        Target3986::Bad => NextHead::Refuse(400),
+        Target3986::Bad => unreachable!(),
         Target3986::NoMemory => NextHead::NoMemory,
     }
 }

@@ -1,7 +1,8 @@
-//! Which heads are refused whatever their target is. Each test looks at the head where it stands, and copies nothing.
+//! Which heads are refused, and with which status. Each test looks at the head where it stands, and copies nothing.
 
 ghost use Rattle.std.specs.Prelude.{◌≡◌, ◌≤◌, All, codes, length, nat_lt};
-ghost use Rattle.httparse.specs.Spans.{IsHeaderWithin};
+ghost use Rattle.httparse.specs.Grammar.{RequestHead};
+ghost use Rattle.httparse.specs.Spans.{IsHeaderWithin, IsRequestAt, IsRequestWithin};
 ghost use Rattle.tow_model.specs.Fields.{values_of};
 ghost use Rattle.tow_model.specs.Heads as heads;
 ghost use Rattle.tow_request.specs.Lines.{fields_at};
@@ -10,7 +11,8 @@ ghost use Rattle.tow_request.specs.Refusals as model;
 use crate::codings::codings_of;
 use crate::fields::{count_named, has_named};
 use crate::framing::is_length_wrong;
-use httparse::spans::HeaderSpan;
+use httparse::spans::{HeaderSpan, RequestSpans};
+use tow_path::has_form;
 
 /// Whether there is no Host line in HTTP/1.1, or more than one in either version (RFC 9112, section 3.2).
 fn is_host_wrong(bytes: &[u8], lines: &[HeaderSpan], minor: u8) -> bool
@@ -31,7 +33,7 @@ fn is_coding_wrong(bytes: &[u8], lines: &[HeaderSpan], minor: u8) -> bool
 }
 
 /// Whether the head is wrong, whatever its target is.
-pub(crate) fn is_wrong(bytes: &[u8], lines: &[HeaderSpan], minor: u8) -> bool
+fn is_wrong(bytes: &[u8], lines: &[HeaderSpan], minor: u8) -> bool
     requires { All (IsHeaderWithin (length bytes.now)) lines.now }
     ensures { result ≡ model.wrong_fields minor (fields_at bytes.now lines.now) }
 {
@@ -41,9 +43,26 @@ pub(crate) fn is_wrong(bytes: &[u8], lines: &[HeaderSpan], minor: u8) -> bool
 }
 
 /// Whether a coding stands before the last one.
-pub(crate) fn is_coded(bytes: &[u8], lines: &[HeaderSpan]) -> bool
+fn is_coded(bytes: &[u8], lines: &[HeaderSpan]) -> bool
     requires { All (IsHeaderWithin (length bytes.now)) lines.now }
     ensures { result ≡ heads.is_coded (fields_at bytes.now lines.now) }
 {
     codings_of(bytes, lines).has_two
+}
+
+/// The status with which the head of these spans is refused, where it is. Takes no memory.
+pub(crate) fn refusal_of(bytes: &[u8], headers: &[HeaderSpan], head: RequestSpans) -> Option<u16>
+    requires { IsRequestWithin bytes.now headers.now head }
+    ensures { (h : RequestHead) → IsRequestAt bytes.now headers.now head h → result ≡ heads.refusal h }
+{
+    let lines = &headers[..head.headers];
+    if is_wrong(bytes, lines, head.version)
+        || !has_form(head.method.of(bytes), head.path.of(bytes))
+    {
+        return Some(400);
+    }
+    if is_coded(bytes, lines) {
+        return Some(501);
+    }
+    None
 }
