@@ -4,7 +4,8 @@ use Rattle.std.proofs.Common.{refl, sym, ◌∙◌, ap, arith, rules}
 use Rattle.std.proofs.lemmas.List.{take_more}
 use Rattle.tow_model.specs.Shapes.{without_last_slashes}
 
-slash_goes : (path : List ℕ) → without_last_slashes (path ++ 47 ∷ []) ≡ without_last_slashes path
+-- a `/` at the end goes
+pub slash_goes : (path : List ℕ) → without_last_slashes (path ++ 47 ∷ []) ≡ without_last_slashes path
 slash_goes [] = refl
 slash_goes (b ∷ bs) = rw (slash_goes bs)
 

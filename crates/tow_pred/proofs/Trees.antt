@@ -1,6 +1,6 @@
 -- Regex tests of trees, part by part.
 use Rattle.std.proofs.Common.{◌≡◌, ℕ, ◌<◌, List, [], ◌∷◌, ◌++◌, Option, None, Some, map, length, get_or, slice_get, refl, sym, ap, ◌∙◌, subst, arith}
-use Rattle.std.proofs.lemmas.List.{get_or_default, length-map}
+use Rattle.std.proofs.lemmas.List.{append-nil, get_or_default, length-map}
 use Rattle.std.proofs.lemmas.List.FromFn.{get_or-range_with_len}
 use Rattle.std.proofs.lemmas.Option.{same_Some, slice_get_read}
 use Rattle.std.proofs.Math.ListN.{get_or-map}
@@ -16,43 +16,45 @@ use Rattle.tow_pred.proofs.Among.{among_left, among_right}
 
 -- WHAT EACH CONSTRUCT HAS
 
-when_is : (t : Predicate) (a : Statement) → statement_patterns (st.When t a None) ≡ patterns_in t ++ (statement_patterns a ++ [])
-when_is t a = ap statement_patterns (sym (st.rolls-When t a None)) ∙ fold-roll-Statement (List (ℕ × Text)) statement_patterns_by (sf.When t a None)
+pub patterns_in_when : (t : Predicate) (a : Statement) → statement_patterns (st.When t a None) ≡ patterns_in t ++ statement_patterns a
+patterns_in_when t a =
+    ap statement_patterns (sym (st.rolls-When t a None)) ∙ fold-roll-Statement (List (ℕ × Text)) statement_patterns_by (sf.When t a None)
+    ∙ ap (λ l. patterns_in t ++ l) (append-nil (statement_patterns a))
 
-when_else_is : (t : Predicate) (a o : Statement) → statement_patterns (st.When t a (Some o)) ≡ patterns_in t ++ (statement_patterns a ++ statement_patterns o)
-when_else_is t a o =
+pub patterns_in_else : (t : Predicate) (a o : Statement) → statement_patterns (st.When t a (Some o)) ≡ patterns_in t ++ (statement_patterns a ++ statement_patterns o)
+patterns_in_else t a o =
     ap statement_patterns (sym (st.rolls-When t a (Some o))) ∙ fold-roll-Statement (List (ℕ × Text)) statement_patterns_by (sf.When t a (Some o))
 
 joined_map : (ts : List Statement) → joined_lists (map statement_patterns ts) ≡ tree_patterns ts
 joined_map [] = refl
 joined_map (t ∷ ts) = ap (λ k. statement_patterns t ++ k) (joined_map ts)
 
-pub block_is : (ts : List Statement) → statement_patterns (st.Block ts) ≡ tree_patterns ts
-block_is ts =
+pub patterns_in_block : (ts : List Statement) → statement_patterns (st.Block ts) ≡ tree_patterns ts
+patterns_in_block ts =
     ap statement_patterns (sym (st.rolls-Block ts)) ∙ fold-roll-Statement (List (ℕ × Text)) statement_patterns_by (sf.Block ts) ∙ joined_map ts
 
 -- WHERE A TREE'S TESTS ARE AMONG PATTERNS, SO ARE THOSE OF ITS PARTS
 
 module _ (patterns : List Text) where
   pub among_asked : (t : Predicate) (a : Statement) (other : Option Statement) → AreAmong (statement_patterns (st.When t a other)) patterns → AreAmong (patterns_in t) patterns
-  among_asked t a None are = among_left (patterns_in t) (statement_patterns a ++ []) patterns (subst (λ ts. AreAmong ts patterns) (when_is t a) are)
+  among_asked t a None are = among_left (patterns_in t) (statement_patterns a) patterns (subst (λ ts. AreAmong ts patterns) (patterns_in_when t a) are)
   among_asked t a (Some o) are =
-      among_left (patterns_in t) (statement_patterns a ++ statement_patterns o) patterns (subst (λ ts. AreAmong ts patterns) (when_else_is t a o) are)
+      among_left (patterns_in t) (statement_patterns a ++ statement_patterns o) patterns (subst (λ ts. AreAmong ts patterns) (patterns_in_else t a o) are)
 
   pub among_then : (t : Predicate) (a : Statement) (other : Option Statement) → AreAmong (statement_patterns (st.When t a other)) patterns → AreAmong (statement_patterns a) patterns
   among_then t a None are =
-      among_left (statement_patterns a) [] patterns (among_right (patterns_in t) (statement_patterns a ++ []) patterns (subst (λ ts. AreAmong ts patterns) (when_is t a) are))
+      among_right (patterns_in t) (statement_patterns a) patterns (subst (λ ts. AreAmong ts patterns) (patterns_in_when t a) are)
   among_then t a (Some o) are =
       among_left (statement_patterns a) (statement_patterns o) patterns
-      (among_right (patterns_in t) (statement_patterns a ++ statement_patterns o) patterns (subst (λ ts. AreAmong ts patterns) (when_else_is t a o) are))
+      (among_right (patterns_in t) (statement_patterns a ++ statement_patterns o) patterns (subst (λ ts. AreAmong ts patterns) (patterns_in_else t a o) are))
 
   pub among_else : (t : Predicate) (a o : Statement) → AreAmong (statement_patterns (st.When t a (Some o))) patterns → AreAmong (statement_patterns o) patterns
   among_else t a o are =
       among_right (statement_patterns a) (statement_patterns o) patterns
-      (among_right (patterns_in t) (statement_patterns a ++ statement_patterns o) patterns (subst (λ ts. AreAmong ts patterns) (when_else_is t a o) are))
+      (among_right (patterns_in t) (statement_patterns a ++ statement_patterns o) patterns (subst (λ ts. AreAmong ts patterns) (patterns_in_else t a o) are))
 
   pub among_block : (ts : List Statement) → AreAmong (statement_patterns (st.Block ts)) patterns → AreAmong (tree_patterns ts) patterns
-  among_block ts are = subst (λ ks. AreAmong ks patterns) (block_is ts) are
+  among_block ts are = subst (λ ks. AreAmong ks patterns) (patterns_in_block ts) are
 
   pub among_first : (t : Statement) (ts : List Statement) → AreAmong (tree_patterns (t ∷ ts)) patterns → AreAmong (statement_patterns t) patterns
   among_first t ts are = among_left (statement_patterns t) (tree_patterns ts) patterns are

@@ -1,2 +1,2 @@
-pub mod PrintParts
-pub mod PrintWords
+pub mod Parts
+pub mod Words

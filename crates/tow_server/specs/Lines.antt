@@ -3,7 +3,7 @@ use Rattle.std.specs.Prelude.{◌≡◌, ◌⊎◌, ℕ, Bool, false, List, [], 
 use Rattle.tow_model.specs.declared.kind.Kind.{Kind}
 use Rattle.tow_model.specs.declared.kind.Kind.TheVariants.{TooLong, UnclosedQuote, UnclosedBrace, StrayByte, Unexpected, TooDeep, UnknownName, BadParameter, BadAttribute, BadTarget, TooManyLimits, BadPattern, LargePattern}
 use Rattle.tow_model.specs.Fault.{IsFault, line_of, column_of}
-use Rattle.tow_site.specs.Compiled.{SiteData, IsSiteOf, IsPatternFault}
+use Rattle.tow_site.specs.Compiled.{SiteData, IsSiteOf, IsFaultAtPattern}
 use Rattle.tow_site.specs.declared.fault.Fault.{Fault}
 use Rattle.tow_site.specs.declared.fault.Fault.TheVariants.{Text, NoMemory}
 
@@ -43,7 +43,7 @@ line_for NoMemory = []
 -- the command and after it
 abbrev pub IsFaultLine : List ℕ → (List ℕ → ℕ) → (List ℕ → ℕ) → List ℕ → Type 0
 IsFaultLine bytes before now line =
-    (kind : Kind) × (place : ℕ) × (IsFault bytes kind place ⊎ IsPatternFault bytes kind place before now) × (line ≡ fault_line kind (line_of bytes place) (column_of bytes place))
+    (kind : Kind) × (place : ℕ) × (IsFault bytes kind place ⊎ IsFaultAtPattern bytes kind place before now) × (line ≡ fault_line kind (line_of bytes place) (column_of bytes place))
 
 -- the line says that the text's site is not built
 abbrev pub IsUnbuiltLine : (SiteData → Bool) → List ℕ → List ℕ → Type 0

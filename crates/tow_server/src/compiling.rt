@@ -1,5 +1,5 @@
 ghost use Rattle.std.specs.Prelude.{◌≡◌, IfOk, IfErr};
-ghost use Rattle.tow_site.specs.Compiled.{IsSiteOf, IsFaultOf};
+ghost use Rattle.tow_site.specs.Compiled.{IsSiteOf, IsFaultOfText};
 
 use std::alloc::Global;
 use tow_host::Host;
@@ -8,7 +8,7 @@ use tow_site::{Fault, Site, compile};
 /// Compiles a text, whose patterns the host makes. Takes memory as `compile` does.
 pub fn compile_text<H: Host>(alloc: Global, host: &mut H, text: &[u8]) -> Result<Site, Fault>
     ensures ok { IfOk result (λ site. IsSiteOf text.now site) }
-    ensures fault { IfErr result (λ fault. IsFaultOf text.now (H.larges host.old) (H.larges host.new) fault) }
+    ensures fault { IfErr result (λ fault. IsFaultOfText text.now (H.larges host.old) (H.larges host.new) fault) }
     ensures made { IfOk result (λ _. H.larges host.new ≡ H.larges host.old) }
     ensures held { H.held host.new ≡ H.held host.old }
     ensures home { H.is_home host.new ≡ H.is_home host.old }

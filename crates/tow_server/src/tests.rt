@@ -154,7 +154,7 @@ const ANSWERED: [(&[u8], &[u8], &[u8]); 20] = [
     ),
     (
         HI,
-        b"GET /hi HTTP/1.1\r\nHost: a\r\nContent-Length: 3\r\nTransfer-Encoding: chunked\r\n\r\n",
+        b"GET /hi HTTP/1.1\r\nHost: a\r\nContent-Length: 3\r\nTransfer-Encoding: chunked\r\n\r\nGET /hi HTTP/1.1\r\nHost: a\r\n\r\n",
         BAD,
     ),
     (

@@ -11,7 +11,7 @@ use Rattle.tow_pred.specs.Faults as tests
 use Rattle.tow_pred.specs.Numbering.{IsNumbered, tree_patterns}
 use Rattle.tow_pred.specs.declared.fault.PatternFault.{PatternFault}
 use Rattle.tow_pred.specs.declared.fault.PatternFault.TheVariants.{BadPattern, LargePattern, NoMemory}
-use Rattle.tow_site.specs.Compiled.{HasTree, IsFaultOf, IsPatternFault, IsRefused, pattern_fault, pattern_texts, refused_number}
+use Rattle.tow_site.specs.Compiled.{HasTree, IsFaultOfText, IsFaultAtPattern, IsRefused, pattern_fault, pattern_texts, refused_number}
 use Rattle.tow_site.proofs.Numbering.{are_numbered, have_places}
 
 pub is_numbered : (text : List ℕ) (tree : List Statement) (places : List ℕ) → HasTree text tree places → IsNumbered tree
@@ -39,10 +39,10 @@ module _ (text : List ℕ) (tree : List Statement) (places : List ℕ) (has_tree
   has_place NoMemory is = tt
 
   refused_at : (kind : Kind) (n : ℕ) (P : List ℕ → Type 0) → IsSomeAnd (slice_get (pattern_texts tree) n) P → All IsGoodPattern (take n (pattern_texts tree))
-      → ((pattern : List ℕ) → P pattern → IsRefused kind pattern before now) → IsPatternFault text kind (slice_index places n) before now
+      → ((pattern : List ℕ) → P pattern → IsRefused kind pattern before now) → IsFaultAtPattern text kind (slice_index places n) before now
   refused_at kind n P is good refused = here (slice_get (pattern_texts tree) n) refl is
     where
-      here : (o : Option (List ℕ)) → slice_get (pattern_texts tree) n ≡ o → IsSomeAnd o P → IsPatternFault text kind (slice_index places n) before now
+      here : (o : Option (List ℕ)) → slice_get (pattern_texts tree) n ≡ o → IsSomeAnd o P → IsFaultAtPattern text kind (slice_index places n) before now
       here None none is = absurd is
       here (Some pattern) some is = record {
         tree = tree;
@@ -57,7 +57,7 @@ module _ (text : List ℕ) (tree : List Statement) (places : List ℕ) (has_tree
       }
 
   -- the fault of the text
-  pub is_fault : (fault : PatternFault) → tests.IsPatternFault (pattern_texts tree) before now fault → IsFaultOf text before now (pattern_fault text places fault)
+  pub is_fault : (fault : PatternFault) → tests.IsPatternFault (pattern_texts tree) before now fault → IsFaultOfText text before now (pattern_fault text places fault)
   is_fault (BadPattern n) is =
       (slice_index places n, inr (refused_at kinds.BadPattern n _ is.0 is.1 (λ pattern bad. inl (refl, bad))), refl)
   is_fault (LargePattern n) is =

@@ -24,6 +24,8 @@ use Rattle.tow_model.specs.Raw.{RawCall, RawPredicate, alone, or_more, RawConjun
 use Rattle.tow_model.specs.Table.{test_named, test_parameters, handler_named, handler_parameters}
 use Rattle.tow_model.specs.Texts.{Text}
 use Rattle.tow_pred.specs.Numbering.{statement_patterns_by, statement_patterns, tree_patterns, IsNumbered}
+use Rattle.tow_pred.proofs.Among.{patterns_in_is, patterns_in_not, patterns_in_and, patterns_in_or}
+use Rattle.tow_pred.proofs.Trees.{patterns_in_when, patterns_in_else, patterns_in_block}
 
 -- regex tests with their numbers and patterns
 abbrev pub Patterns : Type 0
@@ -109,24 +111,12 @@ test_numbers c n =
 
 -- PREDICATES
 
-is_is : (t : Test) → patterns_in (p.Is t) ≡ pattern_of t
-is_is t = ap patterns_in (sym (p.rolls-Is t)) ∙ fold-roll-Predicate Patterns patterns_by (pf.Is t)
-
-not_is : (a : Predicate) → patterns_in (p.Not a) ≡ patterns_in a
-not_is a = ap patterns_in (sym (p.rolls-Not a)) ∙ fold-roll-Predicate Patterns patterns_by (pf.Not a)
-
-and_is : (a b : Predicate) → patterns_in (p.And a b) ≡ patterns_in a ++ patterns_in b
-and_is a b = ap patterns_in (sym (p.rolls-And a b)) ∙ fold-roll-Predicate Patterns patterns_by (pf.And a b)
-
-or_is : (a b : Predicate) → patterns_in (p.Or a b) ≡ patterns_in a ++ patterns_in b
-or_is a b = ap patterns_in (sym (p.rolls-Or a b)) ∙ fold-roll-Predicate Patterns patterns_by (pf.Or a b)
-
 -- a predicate that is joined with what stands before it
 both : (first next last : Counts) (a b : Predicate) → Numbers first next (patterns_in a) → Numbers next last (patterns_in b) → Numbers first last (patterns_in (p.And a b))
-both first next last a b one two = same_tests first last _ _ (and_is a b) (joined first next last (patterns_in a) (patterns_in b) one two)
+both first next last a b one two = same_tests first last _ _ (patterns_in_and a b) (joined first next last (patterns_in a) (patterns_in b) one two)
 
 either : (first next last : Counts) (a b : Predicate) → Numbers first next (patterns_in a) → Numbers next last (patterns_in b) → Numbers first last (patterns_in (p.Or a b))
-either first next last a b one two = same_tests first last _ _ (or_is a b) (joined first next last (patterns_in a) (patterns_in b) one two)
+either first next last a b one two = same_tests first last _ _ (patterns_in_or a b) (joined first next last (patterns_in a) (patterns_in b) one two)
 
 mutual
   predicate_numbers : (raw : RawPredicate) (n : Counts) → Fits patterns_in n (fit_predicate raw n)
@@ -150,31 +140,14 @@ mutual
       bound patterns_in patterns_in n first (fit_factor f n) _ (factor_numbers f n) (λ x is. and_numbers c (p.And left x.0) first x.1 (both first n x.1 left x.0 before is))
 
   factor_numbers : (raw : RawFactor) (n : Counts) → Fits patterns_in n (fit_factor raw n)
-  factor_numbers (test c) n = bound pattern_of patterns_in n n (fit_test c n) _ (test_numbers c n) (λ x is. same_tests n x.1 _ _ (is_is x.0) is)
-  factor_numbers (negated f) n = bound patterns_in patterns_in n n (fit_factor f n) _ (factor_numbers f n) (λ x is. same_tests n x.1 _ _ (not_is x.0) is)
+  factor_numbers (test c) n = bound pattern_of patterns_in n n (fit_test c n) _ (test_numbers c n) (λ x is. same_tests n x.1 _ _ (patterns_in_is x.0) is)
+  factor_numbers (negated f) n = bound patterns_in patterns_in n n (fit_factor f n) _ (factor_numbers f n) (λ x is. same_tests n x.1 _ _ (patterns_in_not x.0) is)
   factor_numbers (grouped raw) n = predicate_numbers raw n
 
 -- STATEMENTS
 
-act_is : (a : Action) → statement_patterns (st.Act a) ≡ []
-act_is a = ap statement_patterns (sym (st.rolls-Act a)) ∙ fold-roll-Statement Patterns statement_patterns_by (sf.Act a)
-
-flat_map-map : {A B : Type 0} (f : A → List B) (xs : List A) → flat_map (λ (l : List B). l) (map f xs) ≡ flat_map f xs
-flat_map-map f [] = refl
-flat_map-map f (x ∷ xs) = ap (λ l. f x ++ l) (flat_map-map f xs)
-
-block_is : (ts : List Statement) → statement_patterns (st.Block ts) ≡ tree_patterns ts
-block_is ts =
-    ap statement_patterns (sym (st.rolls-Block ts)) ∙ fold-roll-Statement Patterns statement_patterns_by (sf.Block ts) ∙ flat_map-map statement_patterns ts
-
-when_is : (t : Predicate) (a : Statement) → statement_patterns (st.When t a None) ≡ patterns_in t ++ statement_patterns a
-when_is t a =
-    ap statement_patterns (sym (st.rolls-When t a None)) ∙ fold-roll-Statement Patterns statement_patterns_by (sf.When t a None)
-    ∙ ap (λ l. patterns_in t ++ l) (append-nil (statement_patterns a))
-
-else_is : (t : Predicate) (a b : Statement) → statement_patterns (st.When t a (Some b)) ≡ patterns_in t ++ (statement_patterns a ++ statement_patterns b)
-else_is t a b =
-    ap statement_patterns (sym (st.rolls-When t a (Some b))) ∙ fold-roll-Statement Patterns statement_patterns_by (sf.When t a (Some b))
+patterns_in_act : (a : Action) → statement_patterns (st.Act a) ≡ []
+patterns_in_act a = ap statement_patterns (sym (st.rolls-Act a)) ∙ fold-roll-Statement Patterns statement_patterns_by (sf.Act a)
 
 -- an action has no test, and leaves the places
 acted_places : (name : Handler) (gs : List Given) (n : Counts) → (made_action name gs n).1.patterns ≡ n.patterns
@@ -207,22 +180,22 @@ action_numbers c n =
 
 mutual
   target_numbers : (raw : RawTarget) (n : Counts) → Fits statement_patterns n (fit_target raw n)
-  target_numbers (handler c) n = bound no_tests statement_patterns n n (fit_action c n) _ (action_numbers c n) (λ x is. same_tests n x.1 _ _ (act_is x.0) is)
-  target_numbers restart n = same_tests n n _ _ (act_is _) (nothing n n refl)
-  target_numbers done n = same_tests n n _ _ (act_is _) (nothing n n refl)
-  target_numbers (block raw) n = bound tree_patterns statement_patterns n n (fit_list raw n) _ (list_numbers raw n) (λ x is. same_tests n x.1 _ _ (block_is x.0) is)
+  target_numbers (handler c) n = bound no_tests statement_patterns n n (fit_action c n) _ (action_numbers c n) (λ x is. same_tests n x.1 _ _ (patterns_in_act x.0) is)
+  target_numbers restart n = same_tests n n _ _ (patterns_in_act _) (nothing n n refl)
+  target_numbers done n = same_tests n n _ _ (patterns_in_act _) (nothing n n refl)
+  target_numbers (block raw) n = bound tree_patterns statement_patterns n n (fit_list raw n) _ (list_numbers raw n) (λ x is. same_tests n x.1 _ _ (patterns_in_block x.0) is)
 
   statement_numbers : (raw : RawStatement) (n : Counts) → Fits statement_patterns n (fit_statement raw n)
   statement_numbers (act t) n = target_numbers t n
   statement_numbers (when q t) n =
       bound patterns_in statement_patterns n n (fit_predicate q n) _ (predicate_numbers q n)
       (λ x is. bound statement_patterns statement_patterns x.1 n (fit_target t x.1) _ (target_numbers t x.1)
-      (λ y next. same_tests n y.1 _ _ (when_is x.0 y.0) (joined n x.1 y.1 _ _ is next)))
+      (λ y next. same_tests n y.1 _ _ (patterns_in_when x.0 y.0) (joined n x.1 y.1 _ _ is next)))
   statement_numbers (when_else q t s) n =
       bound patterns_in statement_patterns n n (fit_predicate q n) _ (predicate_numbers q n)
       (λ x is. bound statement_patterns statement_patterns x.1 n (fit_target t x.1) _ (target_numbers t x.1)
       (λ y next. bound statement_patterns statement_patterns y.1 n (fit_statement s y.1) _ (statement_numbers s y.1)
-      (λ z last. same_tests n z.1 _ _ (else_is x.0 y.0 z.0) (joined n x.1 z.1 _ _ is (joined x.1 y.1 z.1 _ _ next last)))))
+      (λ z last. same_tests n z.1 _ _ (patterns_in_else x.0 y.0 z.0) (joined n x.1 z.1 _ _ is (joined x.1 y.1 z.1 _ _ next last)))))
 
   list_numbers : (raw : RawList) (n : Counts) → Fits tree_patterns n (fit_list raw n)
   list_numbers none n = nothing n n refl

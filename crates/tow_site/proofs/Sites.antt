@@ -8,7 +8,7 @@ use Rattle.tow_model.specs.Fault.{IsFault}
 use Rattle.tow_model.proofs.Kept.{is_one_derivation, is_no_tree_at_fault}
 use Rattle.tow_model.specs.Patterns.{IsGoodPattern}
 use Rattle.tow_link.specs.Data.{Rose}
-use Rattle.tow_site.specs.Compiled.{SiteData, HasTree, IsSiteOf, IsPatternFault, IsRefused, pattern_texts}
+use Rattle.tow_site.specs.Compiled.{SiteData, HasTree, IsSiteOf, IsFaultAtPattern, IsRefused, pattern_texts}
 
 same_fit : (a b : List Statement) (m n : Counts) (f : Fitted (List Statement)) → f ≡ Ok (a, m) → f ≡ Ok (b, n) → (a ≡ b) × (m ≡ n)
 same_fit a b m n f left right =
@@ -41,7 +41,7 @@ all_at : {A : Type 0} (P : A → Type 0) (xs : List A) (n : ℕ) (x : A) → All
 all_at P xs n x all is = subst P (get_or_from_slice_get xs n x x is) (all n x (slice_get_within xs n x is))
 
 -- a text that has a site has no fault of a pattern, where the maker refuses none as too large
-pub no_site_at_pattern : (text : List ℕ) (kind : Kind) (place : ℕ) (site : SiteData) (before now : List ℕ → ℕ) → IsPatternFault text kind place before now → IsSiteOf text site
+pub no_site_at_pattern : (text : List ℕ) (kind : Kind) (place : ℕ) (site : SiteData) (before now : List ℕ → ℕ) → IsFaultAtPattern text kind place before now → IsSiteOf text site
     → ((pattern : List ℕ) → Rose (before pattern) (now pattern) → ⊥) → ⊥
 no_site_at_pattern text kind place site before now fault (has_tree, good) none_rose = refused fault.refused
   where

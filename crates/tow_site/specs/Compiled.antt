@@ -48,7 +48,7 @@ IsRefused kind pattern before now = ((kind ≡ BadPattern) × ¬ (IsGoodPattern 
 
 -- The text has a tree, one of whose patterns is refused; its value stands at the place. All patterns before it are in the
 -- grammar.
-pub record IsPatternFault (text : List ℕ) (kind : Kind) (place : ℕ) (before now : List ℕ → ℕ) : Type 0 where
+pub record IsFaultAtPattern (text : List ℕ) (kind : Kind) (place : ℕ) (before now : List ℕ → ℕ) : Type 0 where
   pub tree : List Statement
   pub places : List ℕ
   pub number : ℕ
@@ -70,10 +70,10 @@ IsTreeFault text NoMemory = Unit {0}
 
 -- The text has this fault, where the maker counted large patterns so before the call and after it. Want of memory says
 -- nothing of the text.
-abbrev pub IsFaultOf : List ℕ → (List ℕ → ℕ) → (List ℕ → ℕ) → Fault → Type 0
-IsFaultOf text before now (Text kind line column) =
-    (place : ℕ) × (IsFault text kind place ⊎ IsPatternFault text kind place before now) × (Text kind line column ≡ fault_of text kind place)
-IsFaultOf text before now NoMemory = Unit {0}
+abbrev pub IsFaultOfText : List ℕ → (List ℕ → ℕ) → (List ℕ → ℕ) → Fault → Type 0
+IsFaultOfText text before now (Text kind line column) =
+    (place : ℕ) × (IsFault text kind place ⊎ IsFaultAtPattern text kind place before now) × (Text kind line column ≡ fault_of text kind place)
+IsFaultOfText text before now NoMemory = Unit {0}
 
 -- the number of the pattern that is refused
 abbrev pub refused_number : PatternFault → Option ℕ

@@ -1,8 +1,8 @@
 ghost use Rattle.std.specs.Prelude.{◌≡◌, ℕ, List, ◌++◌, OnOk, codes};
 ghost use Rattle.tow_model.specs.Printed.{printed_text, printed_target};
 ghost use Rattle.tow_model.specs.Templates.{spelled_attribute};
-ghost use Rattle.tow_print.specs.PrintWords.{ahead, bytes_in};
-ghost use Rattle.tow_print.specs.PrintParts.{spelled_form};
+ghost use Rattle.tow_print.specs.Words.{ahead, bytes_in};
+ghost use Rattle.tow_print.specs.Parts.{spelled_form};
 
 use super::spelling::Spelling;
 use super::style::{Style, put_bytes, put_quote, style_for};

@@ -1,7 +1,7 @@
 ghost use Rattle.std.specs.Prelude.{◌≡◌, option_map};
 ghost use Rattle.std.specs.Option.{option_copied};
 ghost use Rattle.tow_model.specs.Templates.{long_word, long_form, spelled_long};
-ghost use Rattle.tow_print.specs.PrintParts.{spelled_form, spelled_parts};
+ghost use Rattle.tow_print.specs.Parts.{spelled_form, spelled_parts};
 
 use super::forms::{Form, named};
 use tow_model::{Attribute, Piece};

@@ -1,5 +1,5 @@
 ghost use Rattle.std.specs.Prelude.{◌≡◌, ◌++◌, [], OnOk, if◌then◌else◌};
-ghost use Rattle.tow_print.specs.PrintParts.{tightness, printed_at};
+ghost use Rattle.tow_print.specs.Parts.{tightness, printed_at};
 
 use super::tests_of::put_test;
 use std::alloc::AllocError;

@@ -1,7 +1,7 @@
 ghost use Rattle.std.specs.Prelude.{◌≡◌, ℕ, List, ◌∷◌, ◌++◌, OnOk, map, flat_map};
 ghost use Rattle.std.specs.List.{join_with_byte};
 ghost use Rattle.tow_model.specs.Printed.{printed_match, spelled_segment};
-ghost use Rattle.tow_print.specs.PrintWords.{ahead, bytes_in};
+ghost use Rattle.tow_print.specs.Words.{ahead, bytes_in};
 
 use super::spelling::Spelling;
 use super::style::{Style, put_byte, put_bytes, put_quote, style_for};

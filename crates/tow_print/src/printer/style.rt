@@ -1,5 +1,5 @@
 ghost use Rattle.std.specs.Prelude.{◌≡◌, ◌∷◌, ◌++◌, [], OnOk};
-ghost use Rattle.tow_print.specs.PrintWords.{style_for, bytes_in, quote_in};
+ghost use Rattle.tow_print.specs.Words.{style_for, bytes_in, quote_in};
 
 use std::alloc::AllocError;
 

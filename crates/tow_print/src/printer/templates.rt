@@ -2,8 +2,8 @@ ghost use Rattle.std.specs.Prelude.{◌≡◌, ℕ, List, ◌++◌, OnOk, map, f
 ghost use Rattle.tow_model.specs.Printed.{printed_text, printed_template, printed_array};
 ghost use Rattle.tow_model.specs.Templates.{spelled_piece, spelled_template};
 ghost use Rattle.tow_model.specs.declared.attribute.Piece.TheVariants as pieces;
-ghost use Rattle.tow_print.specs.PrintParts.{spelled_parts};
-ghost use Rattle.tow_print.specs.PrintWords.{ahead, bytes_in};
+ghost use Rattle.tow_print.specs.Parts.{spelled_parts};
+ghost use Rattle.tow_print.specs.Words.{ahead, bytes_in};
 
 use super::endings::ends_with_backslash;
 use super::forms::{form_of, put_form, with_form};

@@ -1,4 +1,4 @@
-use Rattle.tow_print.proofs.PrintBack.{print_is_read_back}
+use Rattle.tow_print.proofs.Back.{print_is_read_back}
 use Rattle.tow_print.proofs.laws.print_reads_back.Goals as goal
 
 pub returns : goal.returns

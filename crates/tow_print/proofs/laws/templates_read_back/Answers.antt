@@ -1,4 +1,4 @@
-use Rattle.tow_print.proofs.PrintTemplates.{template_again}
+use Rattle.tow_print.proofs.Templates.{template_again}
 use Rattle.tow_print.proofs.laws.templates_read_back.Goals as goal
 
 pub returns : goal.returns

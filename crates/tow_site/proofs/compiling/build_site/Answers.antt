@@ -2,7 +2,7 @@ use Rattle.std.proofs.Common.{◌≡◌, Err, ◌<◌, ◌∙◌, ℕ, List, All
 use Rattle.tow_model.specs.declared.statement.Statement.{Statement}
 use Rattle.tow_model.specs.Patterns.{IsGoodPattern}
 use Rattle.tow_site.specs.declared.fault.Fault.{Fault}
-use Rattle.tow_site.specs.Compiled.{HasTree, IsFaultOf, pattern_fault, pattern_texts, refused_number}
+use Rattle.tow_site.specs.Compiled.{HasTree, IsFaultOfText, pattern_fault, pattern_texts, refused_number}
 use Rattle.tow_pred.specs.declared.fault.PatternFault.TheVariants as patterns
 use Rattle.tow_site.proofs.Faulting.{has_place, is_fault, is_numbered}
 use Rattle.tow_site.proofs.compiling.build_site.Goals as goal
@@ -35,7 +35,7 @@ returns-in-Err-clause-fault g c =
     let before = g.M.Maker.larges c.args.maker.now in
     let now = g.M.Maker.larges c.build.new.maker in
     let told = c.fault_of_pattern.ensures ∙ ap (λ (places : List ℕ). pattern_fault text places c.in-Err.fault) c.as_slice.ensures in
-    subst (λ (fault : Fault). IsFaultOf text before now fault) (sym told)
+    subst (λ (fault : Fault). IsFaultOfText text before now fault) (sym told)
     (is_fault text c.args.parsed.tree c.args.parsed.patterns c.requires.tree before now c.in-Err.fault c.in-Err.ensures.refused)
 
 pub returns-in-Err-clause-only : goal.returns-in-Err-clause-only

@@ -1,7 +1,7 @@
 use Rattle.std.proofs.Common.{ap, sym, ◌∙◌}
 use Rattle.tow_model.specs.Templates.{spelled_piece}
 use Rattle.tow_model.specs.Tokens.{last_byte}
-use Rattle.tow_print.proofs.PrintPieces.{last_of_more}
+use Rattle.tow_print.proofs.Pieces.{last_of_more}
 use Rattle.tow_print.proofs.printer.endings.ends_with_backslash.Goals as goal
 
 pub loop-piece-preserved : goal.loop-piece-preserved

@@ -1,5 +1,5 @@
 use Rattle.std.proofs.Common.{arith, sym}
-use Rattle.tow_print.proofs.PrintWords.{last_is}
+use Rattle.tow_print.proofs.Words.{last_is}
 use Rattle.tow_print.proofs.printer.endings.last_byte.Goals as goal
 
 pub returns : goal.returns

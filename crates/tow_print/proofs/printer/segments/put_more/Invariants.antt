@@ -1,6 +1,6 @@
 use Rattle.std.proofs.Common.{◌≡◌, ◌∷◌, ◌++◌, take, flat_map}
 use Rattle.tow_model.specs.Printed.{spelled_segment}
-use Rattle.tow_print.specs.PrintWords.{bytes_in}
+use Rattle.tow_print.specs.Words.{bytes_in}
 use Rattle.tow_print.proofs.printer.segments.put_more.Given as goal
 
 abbrev pub invariant-loop-part : goal.invariant-loop-part

@@ -1,6 +1,6 @@
 use Rattle.std.proofs.Common.{◌≡◌, ℕ, List, ◌∷◌, ◌++◌, drop, flat_map}
 use Rattle.tow_model.specs.Printed.{spelled_segment}
-use Rattle.tow_print.specs.PrintWords.{ahead}
+use Rattle.tow_print.specs.Words.{ahead}
 use Rattle.tow_print.proofs.printer.segments.spelling_of.Given as goal
 
 abbrev pub invariant-loop-part : goal.invariant-loop-part

@@ -2,7 +2,7 @@ use Rattle.std.proofs.Common.{arith, ◌≡◌, ◌+◌, [], ◌∷◌, ◌++◌
 use Rattle.std.proofs.lemmas.Grind.{common_steps}
 use Rattle.std.proofs.lemmas.List.{take_more, take_all, map-append}
 use Rattle.tow_model.specs.Printed.{printed_statement}
-use Rattle.tow_print.proofs.PrintWords.{one_more_part, before_more, block_is}
+use Rattle.tow_print.proofs.Words.{one_more_part, before_more, block_is}
 use Rattle.tow_print.proofs.printer.statements.+put.Goals as goal
 
 pub put_block-loop-part-preserved : goal.put_block-loop-part-preserved

@@ -1,7 +1,7 @@
 use Rattle.std.proofs.Common.{◌≡◌, ◌++◌, take}
 use Rattle.tow_model.specs.Templates.{spelled_piece}
 use Rattle.tow_model.specs.declared.attribute.Piece.TheVariants as pieces
-use Rattle.tow_print.specs.PrintWords.{bytes_in}
+use Rattle.tow_print.specs.Words.{bytes_in}
 use Rattle.tow_print.proofs.printer.templates.put_literal.Given as goal
 
 abbrev pub invariant-loop-byte : goal.invariant-loop-byte

@@ -1,6 +1,6 @@
 use Rattle.std.proofs.Common.{◌≡◌, ◌++◌, take}
 use Rattle.tow_model.specs.Templates.{spelled_template}
-use Rattle.tow_print.specs.PrintWords.{bytes_in}
+use Rattle.tow_print.specs.Words.{bytes_in}
 use Rattle.tow_print.proofs.printer.templates.put_pieces.Given as goal
 
 abbrev pub invariant-loop-piece : goal.invariant-loop-piece

@@ -1,6 +1,6 @@
 use Rattle.std.proofs.Common.{◌≡◌, ℕ, List, ◌++◌, drop}
 use Rattle.tow_model.specs.Templates.{spelled_template}
-use Rattle.tow_print.specs.PrintWords.{ahead}
+use Rattle.tow_print.specs.Words.{ahead}
 use Rattle.tow_print.proofs.printer.templates.spelling_of.Given as goal
 
 abbrev pub invariant-loop-piece : goal.invariant-loop-piece

@@ -1,5 +1,5 @@
 use Rattle.std.proofs.Common.{◌≡◌, ℕ, List, ◌++◌, drop}
-use Rattle.tow_print.specs.PrintWords.{ahead}
+use Rattle.tow_print.specs.Words.{ahead}
 use Rattle.tow_print.proofs.printer.spelling.Spelling.with_bytes.Given as goal
 
 -- what is left makes the word that all makes

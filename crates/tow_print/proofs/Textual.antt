@@ -17,10 +17,10 @@ use Rattle.tow_model.specs.Raw.{Written, RawValue, one, array, RawParameters, un
 use Rattle.tow_model.specs.Grammar.{Rest, AtEnd, Next, Mark, Keyword, Placed, TextThen, Commas, ValueThen, PairThen, ParametersThen, BracketsThen, CallThen, PredicateThen, ConjunctionThen, FactorThen, SeparatorsThen, MaybeArrow, ends_in_brace, Between, TargetThen, StatementThen, ListThen}
 use Rattle.tow_model.specs.Syntax.{Reads}
 use Rattle.tow_model.proofs.Cut.{quote_is}
-use Rattle.tow_print.proofs.PrintPredicates.{OfPredicate, OfConjunction, OfFactor}
-use Rattle.tow_print.proofs.PrintStatements.{OfTarget, OfStatement, OfList}
-use Rattle.tow_print.proofs.PrintTexts.{IsFine}
-use Rattle.tow_print.proofs.PrintUtf8.{utf8_before, utf8_uncons, utf8_behind, utf8_behind_ascii, utf8_cons, utf8_unescaped}
+use Rattle.tow_print.proofs.Predicates.{OfPredicate, OfConjunction, OfFactor}
+use Rattle.tow_print.proofs.Statements.{OfTarget, OfStatement, OfList}
+use Rattle.tow_print.proofs.Texts.{IsFine}
+use Rattle.tow_print.proofs.Utf8.{utf8_before, utf8_uncons, utf8_behind, utf8_behind_ascii, utf8_cons, utf8_unescaped}
 
 -- a text that can be printed, and is UTF-8
 abbrev pub IsTextual : List ℕ → Type 0

@@ -14,8 +14,8 @@ use Rattle.tow_model.specs.Levels.{PredicateWithin, ConjunctionWithin, FactorWit
 use Rattle.tow_model.specs.Fit.{TextFault, Counts, Fitted, ◌>>=◌, fit_test, fit_predicate, fit_or, fit_conjunction, fit_and, fit_factor}
 use Rattle.tow_model.specs.Printed.{printed_test}
 use Rattle.tow_model.proofs.Folds.{printed_at, at_is, at_not, at_and, at_or}
-use Rattle.tow_print.proofs.PrintShown.{Shown, shown_then, shown_as}
-use Rattle.tow_print.proofs.PrintTexts.{IsEnd, one_shown, keyword_shown}
+use Rattle.tow_print.proofs.Shown.{Shown, shown_then, shown_as}
+use Rattle.tow_print.proofs.Texts.{IsEnd, one_shown, keyword_shown}
 
 -- as many limits, logs and patterns
 pub record Same (n m : Counts) : Type 0 where

@@ -13,11 +13,11 @@ use Rattle.tow_model.specs.Raw.{RawCall, RawPredicate, alone, or_more, RawConjun
 use Rattle.tow_model.specs.Fit.{Counts, Fitted, ◌>>=◌, fit_test, fit_action, fit_predicate, fit_or, fit_conjunction, fit_and, fit_factor, fit_target, fit_statement, fit_list}
 use Rattle.tow_model.specs.Printed.{joined_by, in_parentheses, printed_test, printed_action, printed_block, printed_statement, print_of}
 use Rattle.tow_model.proofs.Folds.{printed_at, at_is, at_not, at_and, at_or, of_act, of_block, of_when, of_else}
-use Rattle.tow_print.proofs.PrintPredicates.{OfPredicate, OfConjunction, OfFactor, bind_ok, ok_pair}
-use Rattle.tow_print.proofs.PrintStatements.{OfTarget, OfStatement, OfList}
-use Rattle.tow_print.proofs.PrintTextual.{OfEach}
-use Rattle.tow_print.proofs.PrintUtf8.{utf8_cons, utf8_ascii}
-use Rattle.tow_print.proofs.PrintUtf8Forms.{utf8_joined}
+use Rattle.tow_print.proofs.Predicates.{OfPredicate, OfConjunction, OfFactor, bind_ok, ok_pair}
+use Rattle.tow_print.proofs.Statements.{OfTarget, OfStatement, OfList}
+use Rattle.tow_print.proofs.Textual.{OfEach}
+use Rattle.tow_print.proofs.Utf8.{utf8_cons, utf8_ascii}
+use Rattle.tow_print.proofs.Utf8Forms.{utf8_joined}
 
 -- each test that such a call fits is printed in UTF-8
 abbrev pub TestsInUtf8 : (RawCall → Type 0) → Type 0

@@ -7,8 +7,8 @@ use Rattle.tow_model.specs.declared.token.TokenKind.TheVariants.{Semi, Comma, Eq
 use Rattle.tow_model.specs.Tokens.{is_white}
 use Rattle.tow_model.specs.Symbols.{mark, Symbol, joined}
 use Rattle.tow_model.specs.Grammar.{Mark, Placed}
-use Rattle.tow_print.proofs.PrintShown.{Shown}
-use Rattle.tow_print.proofs.PrintTexts.{IsEnd, one_shown}
+use Rattle.tow_print.proofs.Shown.{Shown}
+use Rattle.tow_print.proofs.Texts.{IsEnd, one_shown}
 
 -- the mark stays, and opens and closes no bracket
 abbrev Stays : TokenKind → Type 0

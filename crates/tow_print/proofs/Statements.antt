@@ -15,10 +15,10 @@ use Rattle.tow_model.specs.Levels.{TargetWithin, StatementWithin, ListWithin}
 use Rattle.tow_model.specs.Fit.{Counts, Fitted, ◌>>=◌, fit_action, fit_predicate, fit_target, fit_statement, fit_list}
 use Rattle.tow_model.specs.Printed.{printed_action, printed_statement, printed_block, joined_by}
 use Rattle.tow_model.proofs.Folds.{printed_at, of_act, of_block, of_when, of_else}
-use Rattle.tow_print.proofs.PrintShown.{Shown, shown_then, shown_as}
-use Rattle.tow_print.proofs.PrintTexts.{pieces_end, keyword_shown}
-use Rattle.tow_print.proofs.PrintMarks.{semi_shown, open_brace_shown, close_brace_shown, arrow_shown, semi_ends}
-use Rattle.tow_print.proofs.PrintPredicates.{Same, Reads, AnyLevel, PredicateReads, OfPredicate, TestsRead, predicate_reads, bind_ok, bind_is, ok_pair, space_ends}
+use Rattle.tow_print.proofs.Shown.{Shown, shown_then, shown_as}
+use Rattle.tow_print.proofs.Texts.{pieces_end, keyword_shown}
+use Rattle.tow_print.proofs.Marks.{semi_shown, open_brace_shown, close_brace_shown, arrow_shown, semi_ends}
+use Rattle.tow_print.proofs.Predicates.{Same, Reads, AnyLevel, PredicateReads, OfPredicate, TestsRead, predicate_reads, bind_ok, bind_is, ok_pair, space_ends}
 
 -- each call of a statement is such
 abbrev mutual

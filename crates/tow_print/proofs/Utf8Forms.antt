@@ -16,10 +16,10 @@ use Rattle.tow_model.specs.Paths.{rooted}
 use Rattle.tow_model.specs.Shapes.{without_last_slashes, prefix_of}
 use Rattle.tow_model.specs.Table.{Parameter, test_name, test_parameters, handler_name, handler_parameters}
 use Rattle.tow_model.specs.Printed.{is_word, joined_by, printed_text, printed_prefix, printed_array, printed_truth, printed_pairs, printed_call}
-use Rattle.tow_print.specs.PrintWords.{quoted_byte}
-use Rattle.tow_print.proofs.PrintFits.{with_slash}
-use Rattle.tow_print.proofs.PrintTextual.{OfEach}
-use Rattle.tow_print.proofs.PrintUtf8.{utf8_cons, utf8_ascii, utf8_before, utf8_flat_map}
+use Rattle.tow_print.specs.Words.{quoted_byte}
+use Rattle.tow_print.proofs.Fits.{with_slash}
+use Rattle.tow_print.proofs.Textual.{OfEach}
+use Rattle.tow_print.proofs.Utf8.{utf8_cons, utf8_ascii, utf8_before, utf8_flat_map}
 
 one_of : (t : Bool) (a b : List ℕ) → IsUtf8 a → IsUtf8 b → IsUtf8 (if t then a else b)
 one_of true a b u v = u

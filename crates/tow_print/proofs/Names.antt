@@ -18,10 +18,10 @@ use Rattle.tow_model.specs.Shapes.{is_kept_field, target_of}
 use Rattle.tow_model.specs.Fit.{fault, field_at}
 use Rattle.tow_model.specs.Printed.{is_word, printed_text, written_template, printed_target}
 use Rattle.tow_attr.proofs.Shapes.{not_true, both_left, both_right, last_added}
-use Rattle.tow_print.proofs.PrintTemplates.{field_is, own_field, name_token, tokens_without, template_again}
-use Rattle.tow_print.proofs.PrintTextual.{IsTextual}
-use Rattle.tow_print.proofs.PrintUtf8.{utf8_lowercase}
-use Rattle.tow_print.proofs.PrintUtf8Templates.{utf8_written}
+use Rattle.tow_print.proofs.Templates.{field_is, own_field, name_token, tokens_without, template_again}
+use Rattle.tow_print.proofs.Textual.{IsTextual}
+use Rattle.tow_print.proofs.Utf8.{utf8_lowercase}
+use Rattle.tow_print.proofs.Utf8Templates.{utf8_written}
 
 -- a last byte that is no backslash, whatever stands before
 abbrev EndsWell : List ℕ → Type 0

@@ -11,11 +11,11 @@ use Rattle.tow_model.specs.Raw.{Written, RawValue, one, array, RawParameters, un
 use Rattle.tow_model.specs.Shapes.{all_some}
 use Rattle.tow_model.specs.Table.{Parameter, takes_array}
 use Rattle.tow_model.specs.Fit.{◌>>=◌, fault, wanted, place_of, given_of, text_of, gathered, paired, Found, unused, found_of, filled, givens_of}
-use Rattle.tow_print.proofs.PrintPredicates.{bind_ok}
-use Rattle.tow_print.proofs.PrintPaths.{some_mapped}
-use Rattle.tow_print.proofs.PrintTextual.{OfEach, AllTextual, TextualValue, TextualParameters, TextualCall}
-use Rattle.tow_print.proofs.PrintGood.{Good}
-use Rattle.tow_print.proofs.PrintGivens.{wanted_is, given_good}
+use Rattle.tow_print.proofs.Predicates.{bind_ok}
+use Rattle.tow_print.proofs.Paths.{some_mapped}
+use Rattle.tow_print.proofs.Textual.{OfEach, AllTextual, TextualValue, TextualParameters, TextualCall}
+use Rattle.tow_print.proofs.Good.{Good}
+use Rattle.tow_print.proofs.Givens.{wanted_is, given_good}
 
 abbrev ArePairsTextual : List (Written × RawValue) → Type 0
 ArePairsTextual = OfEach (λ (p : Written × RawValue). TextualValue p.1)

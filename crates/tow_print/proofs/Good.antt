@@ -15,13 +15,13 @@ use Rattle.tow_model.specs.Paths.{rooted}
 use Rattle.tow_model.specs.Shapes.{prefix_of, number_of, status_of, segments_of}
 use Rattle.tow_model.specs.Fit.{◌>>=◌, single_text, some_texts, template_at, templates_at, format_at, is_method}
 use Rattle.tow_model.specs.Printed.{written_template}
-use Rattle.tow_print.proofs.PrintPredicates.{bind_ok}
-use Rattle.tow_print.proofs.PrintFits.{with_slash, spelled_match, AreAgain}
-use Rattle.tow_print.proofs.PrintLong.{written_again}
-use Rattle.tow_print.proofs.PrintNames.{IsWritable, IsOwnName}
-use Rattle.tow_print.proofs.PrintNumbers.{IsWritten}
-use Rattle.tow_print.proofs.PrintTextual.{IsTextual, OfEach, AllTextual, TextualValue}
-use Rattle.tow_print.proofs.PrintUtf8Templates.{utf8_written}
+use Rattle.tow_print.proofs.Predicates.{bind_ok}
+use Rattle.tow_print.proofs.Fits.{with_slash, spelled_match, AreAgain}
+use Rattle.tow_print.proofs.Long.{written_again}
+use Rattle.tow_print.proofs.Names.{IsWritable, IsOwnName}
+use Rattle.tow_print.proofs.Numbers.{IsWritten}
+use Rattle.tow_print.proofs.Textual.{IsTextual, OfEach, AllTextual, TextualValue}
+use Rattle.tow_print.proofs.Utf8Templates.{utf8_written}
 
 abbrev pub EachTextual : List (List ℕ) → Type 0
 EachTextual = OfEach IsTextual

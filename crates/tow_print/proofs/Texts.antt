@@ -12,8 +12,8 @@ use Rattle.tow_model.specs.Symbols.{Sign, word, quoted, Symbol, sign_of, unescap
 use Rattle.tow_model.specs.Raw.{Written}
 use Rattle.tow_model.specs.Grammar.{Rest, Keyword, WordThen, TextThen}
 use Rattle.tow_model.specs.Printed.{is_word, printed_text}
-use Rattle.tow_print.specs.PrintWords.{quoted_byte}
-use Rattle.tow_print.proofs.PrintShown.{Shown}
+use Rattle.tow_print.specs.Words.{quoted_byte}
+use Rattle.tow_print.proofs.Shown.{Shown}
 
 -- what may follow a text in the printed form: nothing that a word goes on with
 pub record IsEnd (after : List ℕ) : Type 0 where

@@ -3,6 +3,7 @@
 use Rattle.std.specs.Prelude.{◌≡◌, ◌⊎◌, ℕ, ◌<◌, Bool, true, false, not, ◌&&◌, ◌==◌, List, [], ◌∷◌, ◌++◌, length, if◌then◌else◌, Option, None, Some, option_map, is_some, Ok}
 use Rattle.std.specs.Option.{unwrap_or}
 use Rattle.std.proofs.Common.{refl, sym, ap, ap₂, ◌∙◌, subst, arith, length-append}
+use Rattle.std.proofs.lemmas.Bool.{and_parts}
 use mathlib.Core.Logic.{inl, inr}
 use Rattle.tow_model.specs.declared.attribute.Attribute.{Attribute}
 use Rattle.tow_model.specs.declared.attribute.Piece.{Piece}
@@ -15,11 +16,11 @@ use Rattle.tow_model.proofs.Cut.{sigil}
 use Rattle.tow_attr.proofs.Braced.{form_is}
 use Rattle.tow_attr.proofs.Shapes.{IsShape, two, braced, not_true}
 use Rattle.tow_attr.proofs.Spelled.{templates_are_spelled}
-use Rattle.tow_print.proofs.PrintForms.{short_runs, own_short, FormIs, of_letter, of_word, of_name, form_view, own_braced, own_line, long_of, is_long, long_spells, form_ends}
-use Rattle.tow_print.proofs.PrintPieces.{last_append, spelled_before, long_is}
-use Rattle.tow_print.proofs.PrintScans.{is_one_line, IsBraced, braced_runs, IsApart, scan, goes_on, scan_runs, IsBeside, scan_beside, scan_apart}
-use Rattle.tow_print.proofs.PrintTemplates.{is_plain, both, own_form, spells_again}
-use Rattle.tow_print.proofs.PrintTexts.{IsFine}
+use Rattle.tow_print.proofs.Forms.{short_runs, own_short, FormIs, of_letter, of_word, of_name, form_view, own_braced, own_line, long_of, is_long, long_spells, form_ends}
+use Rattle.tow_print.proofs.Pieces.{last_append, spelled_before, long_is}
+use Rattle.tow_print.proofs.Scans.{is_one_line, IsBraced, braced_runs, IsApart, scan, goes_on, scan_runs, IsBeside, scan_beside, scan_apart}
+use Rattle.tow_print.proofs.Templates.{is_plain, own_form, spells_again}
+use Rattle.tow_print.proofs.Texts.{IsFine}
 
 shape_apart : (spelled rest : List ℕ) → IsShape spelled → IsApart (spelled ++ rest)
 shape_apart spelled rest (two c e) = record { no_arrow = refl; no_brace = refl }
@@ -122,10 +123,10 @@ compared (Value a ∷ ps) text i j (spelled, after, e, form, h) beside w =
     by_view (of_letter plain same) f more =
         plain_more a ps i j i plain (inl refl) (more i j beside (sym (short_runs (spelled_attribute a) after i (own_short a plain)) ∙ sym (ap (λ k. are_pieces i (k ++ after) []) same) ∙ f))
     by_view (of_word plain some closes) f more =
-        let s = both (is_one_line spelled) (are_pieces false after []) (sym (braced_runs i spelled after closes) ∙ f) in
+        let s = and_parts (is_one_line spelled) (are_pieces false after []) (sym (braced_runs i spelled after closes) ∙ f) in
         plain_more a ps i j false plain (inr some) (more false j (closed_beside j) s.1)
     by_view (of_name named line closes) f more =
-        let s = both (is_one_line spelled) (are_pieces false after []) (sym (braced_runs i spelled after closes) ∙ f) in
+        let s = and_parts (is_one_line spelled) (are_pieces false after []) (sym (braced_runs i spelled after closes) ∙ f) in
         named_more a ps i j (own_braced a spelled named form) (own_line a named (line s.0)) (more false false (inl refl) s.1)
 
 -- THE LAST BYTE
@@ -204,6 +205,6 @@ written_again text t fine reads = by_test (is_unquotable (spelled_template t)) r
     by_test : (c : Bool) → is_unquotable own ≡ c → IsAgain t (written_template t)
     by_test false e = subst (IsAgain t) (chosen false e) (quotable own e, (templates_are_spelled own t).1 (spells_again text t spells))
     by_test true e =
-        let h = both (not (is_word own)) (last_byte 0 own == 92) e in
+        let h = and_parts (not (is_word own)) (last_byte 0 own == 92) e in
         let l = long_again text t spells (is_text_word h.1 fine) (not_true (is_word own) h.0) h.1 in
         subst (IsAgain t) (sym (ap (λ o. unwrap_or o own) l.1) ∙ chosen true e) l.2

@@ -4,6 +4,7 @@ use Rattle.std.specs.List.{list_all}
 use Rattle.std.specs.Map.{lookup}
 use Rattle.std.proofs.Common.{refl, sym, ap, ap₂, ◌∙◌, subst}
 use Rattle.std.proofs.lemmas.Bool.{eqb-true}
+use Rattle.std.proofs.lemmas.Bool.{and_parts}
 use mathlib.Core.Logic.{inl, inr}
 use Rattle.http_header.specs.Token.{token_test, lowercase}
 use Rattle.http_header.specs.FieldName.{is_field_name}
@@ -30,16 +31,12 @@ is_plain (Cookie name) = false
 is_plain (Context name) = false
 is_plain other = true
 
-pub both : (a b : Bool) → (a && b) ≡ true → (a ≡ true) × (b ≡ true)
-both true b e = (refl, e)
-both false b e = absurd (cc)
-
 -- what is found in a table whose rows are all good
 pub found_row : {K : Type 0} (test : K → Bool) (good : K → Attribute → Bool) (rows : List (K × Attribute)) (a : Attribute) → list_all (λ (r : K × Attribute). good r.0 r.1) rows ≡ true →
     lookup test rows ≡ Some a → (k : K) × (test k ≡ true) × (good k a ≡ true)
 found_row test good [] a all e = absurd (cc)
 found_row {K = K} test good (r ∷ rows) a all e =
-    let h = both (good r.0 r.1) (list_all (λ (s : K × Attribute). good s.0 s.1) rows) all in by_test (found_row test good rows a h.1) h.0 (test r.0) refl e
+    let h = and_parts (good r.0 r.1) (list_all (λ (s : K × Attribute). good s.0 s.1) rows) all in by_test (found_row test good rows a h.1) h.0 (test r.0) refl e
   where
     by_test : (lookup test rows ≡ Some a → (k : K) × (test k ≡ true) × (good k a ≡ true)) → good r.0 r.1 ≡ true → (t : Bool) → test r.0 ≡ t → (if t then Some r.1 else lookup test rows) ≡ Some a →
         (k : K) × (test k ≡ true) × (good k a ≡ true)
@@ -64,7 +61,7 @@ token_without c b none e = by_test (b == c) refl
 pub tokens_without : (c : ℕ) (bytes : List ℕ) → token_test c ≡ false → list_all token_test bytes ≡ true → list_all (λ b. not (b == c)) bytes ≡ true
 tokens_without c [] none e = refl
 tokens_without c (b ∷ bytes) none e =
-    let h = both (token_test b) (list_all token_test bytes) e in ap₂ (λ s t. s && t) (token_without c b none h.0) (tokens_without c bytes none h.1)
+    let h = and_parts (token_test b) (list_all token_test bytes) e in ap₂ (λ s t. s && t) (token_without c b none h.0) (tokens_without c bytes none h.1)
 
 -- a field's name is kept in lower case, and its own name then
 pub field_is : (bytes name : List ℕ) → field_named bytes ≡ Some name → (is_field_name bytes ≡ true) × (name ≡ lowercase bytes)
@@ -83,7 +80,7 @@ own_field bytes name e =
 
 -- and a token
 pub name_token : (bytes name : List ℕ) → field_named bytes ≡ Some name → list_all token_test name ≡ true
-name_token bytes name e = let is = (field_is name name (own_field bytes name e)).0 in (both _ (list_all token_test name) (both _ _ is).0).1
+name_token bytes name e = let is = (field_is name name (own_field bytes name e)).0 in (and_parts _ (list_all token_test name) (and_parts _ _ is).0).1
 
 own_name : (bytes name : List ℕ) → field_named bytes ≡ Some name → (field_named name ≡ Some name) × (is_closed name ≡ true)
 own_name bytes name e = (own_field bytes name e, tokens_without 125 name refl (name_token bytes name e))
@@ -137,7 +134,7 @@ named_from : (a : Attribute) (spelled : List ℕ) → is_plain a ≡ false → I
 named_from a spelled other (inl (c, e, l)) = absurd (let f : false ≡ true = sym other ∙ letter_plain a c l in cc)
 named_from a spelled other (inr (inside, closed, inl (e, inl w))) = absurd (let f : false ≡ true = sym other ∙ word_plain a inside w in cc)
 named_from a spelled other (inr (inside, closed, inl (e, inr (kind, name, f, g)))) =
-    inl (name, (both (not (44 == 125)) (is_closed name) (both (not (kind == 125)) (is_closed (44 ∷ name)) (ap is_closed (sym f) ∙ closed)).1).1, kind_is a (kind ∷ []) name g)
+    inl (name, (and_parts (not (44 == 125)) (is_closed name) (and_parts (not (kind == 125)) (is_closed (44 ∷ name)) (ap is_closed (sym f) ∙ closed)).1).1, kind_is a (kind ∷ []) name g)
 named_from a spelled other (inr (inside, closed, inr (e, g))) = inr (inside, closed, g)
 
 field_form : (letter : ℕ) (a : Attribute) (bytes name : List ℕ) → not (letter == 125) ≡ true → field_named bytes ≡ Some name → (field_named name ≡ Some name → by_kind (letter ∷ []) name ≡ Some a) →

@@ -23,11 +23,11 @@ use Rattle.tow_model.specs.Templates.{template_of, spelled_attribute, common}
 use Rattle.tow_model.specs.Shapes.{status_of, number_of, prefix_of, target_of, is_kept_field}
 use Rattle.tow_model.specs.Fit.{Counts, Fitted, ◌>>=◌, fault, wanted, given_of, unused, filled, givens_of, made_action, is_limit, is_method, fit_action, template_at, writable_at, field_at, format_at}
 use Rattle.tow_model.specs.Printed.{is_word, printed_text, written_template, printed_template, printed_prefix, printed_array, printed_target, printed_truth, printed_action}
-use Rattle.tow_print.proofs.PrintPredicates.{Same, bind_is}
-use Rattle.tow_print.proofs.PrintTexts.{IsFine, written}
-use Rattle.tow_print.proofs.PrintStatements.{ActionReads}
-use Rattle.tow_print.proofs.PrintValues.{AreFine, ValueReads, IsOne, IsArray, IsPair, ArePairs, AreThreePairs, text_reads, word_reads, array_reads, one_pair, two_pairs, three_pairs, bare_reads, call_reads}
-use Rattle.tow_print.proofs.PrintFits.{givens_one, givens_two, givens_three, template_is, template_given, with_slash}
+use Rattle.tow_print.proofs.Predicates.{Same, bind_is}
+use Rattle.tow_print.proofs.Texts.{IsFine, written}
+use Rattle.tow_print.proofs.Statements.{ActionReads}
+use Rattle.tow_print.proofs.Values.{AreFine, ValueReads, IsOne, IsArray, IsPair, ArePairs, AreThreePairs, text_reads, word_reads, array_reads, one_pair, two_pairs, three_pairs, bare_reads, call_reads}
+use Rattle.tow_print.proofs.Fits.{givens_one, givens_two, givens_three, template_is, template_given, with_slash}
 
 -- the action, unless it is one limit too many
 abbrev limited : Handler → List Given → Counts → ℕ → Fitted Action

@@ -13,9 +13,10 @@ use Rattle.tow_model.specs.Paths.{slash, rooted}
 use Rattle.tow_model.specs.Shapes.{without_last_slashes, prefix_of, is_name_byte, before_brace, segment_of, all_some, are_names_apart, segments_of}
 use Rattle.tow_model.specs.Printed.{spelled_segment}
 use Rattle.tow_attr.proofs.Shapes.{last_added}
-use Rattle.tow_print.proofs.PrintTexts.{IsFine}
-use Rattle.tow_print.proofs.PrintTextual.{any_before}
-use Rattle.tow_print.proofs.PrintFits.{with_slash, spelled_match}
+use Rattle.tow_fit.proofs.Slashes.{slash_goes}
+use Rattle.tow_print.proofs.Texts.{IsFine}
+use Rattle.tow_print.proofs.Textual.{any_before}
+use Rattle.tow_print.proofs.Fits.{with_slash, spelled_match}
 
 -- a leading `/` does no harm
 slash_fine : (path : List ℕ) → IsFine path → IsFine (47 ∷ path)
@@ -52,11 +53,6 @@ rooted_begins path = by_test (begins_with (codes "/") path) refl
     by_test : (t : Bool) → begins_with (codes "/") path ≡ t → (more : List ℕ) × ((if t then path else slash ∷ path) ≡ 47 ∷ more)
     by_test true e = begins_so path e
     by_test false e = (path, refl)
-
--- a `/` at the end goes
-slash_goes : (path : List ℕ) → without_last_slashes (path ++ 47 ∷ []) ≡ without_last_slashes path
-slash_goes [] = refl
-slash_goes (b ∷ bs) = rw (slash_goes bs)
 
 without_twice : (path : List ℕ) → without_last_slashes (without_last_slashes path) ≡ without_last_slashes path
 without_twice [] = refl

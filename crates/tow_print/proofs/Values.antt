@@ -7,10 +7,10 @@ use Rattle.tow_model.specs.Tokens.{is_white}
 use Rattle.tow_model.specs.Raw.{Written, RawValue, one, array, unnamed, named, RawCall}
 use Rattle.tow_model.specs.Grammar.{WordThen, TextThen, Commas, ValueThen, PairThen, BracketsThen, is_reserved, CallThen}
 use Rattle.tow_model.specs.Printed.{is_word, printed_text, joined_by, printed_array}
-use Rattle.tow_print.proofs.PrintMarks.{comma_shown, equals_shown, placed_brace_shown, close_brace_shown, comma_ends, brace_ends}
-use Rattle.tow_print.proofs.PrintPredicates.{open_shown, close_shown, round_ends}
-use Rattle.tow_print.proofs.PrintShown.{Shown, shown_then, shown_as}
-use Rattle.tow_print.proofs.PrintTexts.{IsEnd, IsFine, written, word_ends, word_shown, text_shown}
+use Rattle.tow_print.proofs.Marks.{comma_shown, equals_shown, placed_brace_shown, close_brace_shown, comma_ends, brace_ends}
+use Rattle.tow_print.proofs.Predicates.{open_shown, close_shown, round_ends}
+use Rattle.tow_print.proofs.Shown.{Shown, shown_then, shown_as}
+use Rattle.tow_print.proofs.Texts.{IsEnd, IsFine, written, word_ends, word_shown, text_shown}
 
 abbrev pub AreFine : List (List ℕ) → Type 0
 AreFine [] = Unit {0}

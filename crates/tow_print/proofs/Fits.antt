@@ -21,9 +21,9 @@ use Rattle.tow_model.specs.Templates.{template_of}
 use Rattle.tow_model.specs.Paths.{rooted}
 use Rattle.tow_model.specs.Fit.{Counts, ◌>>=◌, wanted, given_of, unused, found_of, filled, givens_of, made_test, fit_test, template_at, templates_at}
 use Rattle.tow_model.specs.Printed.{is_word, printed_text, printed_prefix, written_template, printed_template, printed_array, printed_match, spelled_segment, printed_test}
-use Rattle.tow_print.proofs.PrintPredicates.{Same, TestReads, bind_is}
-use Rattle.tow_print.proofs.PrintTexts.{IsFine, written}
-use Rattle.tow_print.proofs.PrintValues.{AreFine, ValueReads, IsOne, IsArray, IsPair, ArePairs, text_reads, array_reads, one_pair, two_pairs, bare_reads, call_reads}
+use Rattle.tow_print.proofs.Predicates.{Same, TestReads, bind_is}
+use Rattle.tow_print.proofs.Texts.{IsFine, written}
+use Rattle.tow_print.proofs.Values.{AreFine, ValueReads, IsOne, IsArray, IsPair, ArePairs, text_reads, array_reads, one_pair, two_pairs, bare_reads, call_reads}
 
 found_one : (q : Parameter) (qs : List Parameter) (found more : List (List ℕ × Given)) (i : ℕ) (v : RawValue) (g : Given) (ps : List (Written × RawValue)) → unused qs found q.name ≡ Some q →
     given_of q.shape v ≡ Ok g → found_of qs (found ++ (q.name, g) ∷ []) ps ≡ Ok more → found_of qs found ((written q.name i, v) ∷ ps) ≡ Ok more

@@ -4,10 +4,10 @@ use Rattle.std.proofs.lemmas.Grind.{flat_map-append}
 use Rattle.tow_model.specs.Tokens.{next_is, last_byte}
 use Rattle.std.specs.List.{join_with_byte}
 use Rattle.tow_model.specs.Printed.{joined_by, printed_block}
-use Rattle.tow_print.specs.PrintParts.{parts_behind, before_part}
+use Rattle.tow_print.specs.Parts.{parts_behind, before_part}
 use Rattle.tow_print.specs.declared.printer.style.Style.{Style}
 use Rattle.tow_print.specs.declared.printer.style.Style.TheVariants.{Bare, Quoted}
-use Rattle.tow_print.specs.PrintWords.{quoted_byte, bytes_in}
+use Rattle.tow_print.specs.Words.{quoted_byte, bytes_in}
 
 pub next_is_nil : (c : ℕ) (bs : List ℕ) → next_is c (bs ++ []) ≡ next_is c bs
 next_is_nil c [] = refl

@@ -19,16 +19,16 @@ use Rattle.tow_model.specs.Paths.{rooted}
 use Rattle.tow_model.specs.Shapes.{prefix_of, number_of, status_of, truth_of, segments_of, target_of}
 use Rattle.tow_model.specs.Table.{the_path}
 use Rattle.tow_model.specs.Fit.{TextFault, ◌>>=◌, fault, wanted, place_of, single_text, some_texts, template_at, templates_at, writable_at, field_at, format_at, is_method, given_of}
-use Rattle.tow_print.proofs.PrintPredicates.{bind_ok}
-use Rattle.tow_print.proofs.PrintFits.{with_slash}
-use Rattle.tow_print.proofs.PrintNames.{IsWritable, writable_again, name_again}
-use Rattle.tow_print.proofs.PrintNumbers.{number_again, status_again}
-use Rattle.tow_print.proofs.PrintPaths.{rooted_fine, rooted_twice, with_slash_fine, prefix_again, match_is, match_again}
-use Rattle.tow_print.proofs.PrintTextual.{IsTextual, TextualValue}
-use Rattle.tow_print.proofs.PrintUtf8.{utf8_ascii}
-use Rattle.tow_print.proofs.PrintUtf8Forms.{utf8_rooted, utf8_prefix, utf8_with_slash}
-use Rattle.tow_print.proofs.PrintFormats.{common_again, format_good}
-use Rattle.tow_print.proofs.PrintGood.{EachTextual, Good, text_is, texts_are, template_was, template_good, templates_good}
+use Rattle.tow_print.proofs.Predicates.{bind_ok}
+use Rattle.tow_print.proofs.Fits.{with_slash}
+use Rattle.tow_print.proofs.Names.{IsWritable, writable_again, name_again}
+use Rattle.tow_print.proofs.Numbers.{number_again, status_again}
+use Rattle.tow_print.proofs.Paths.{rooted_fine, rooted_twice, with_slash_fine, prefix_again, match_is, match_again}
+use Rattle.tow_print.proofs.Textual.{IsTextual, TextualValue}
+use Rattle.tow_print.proofs.Utf8.{utf8_ascii}
+use Rattle.tow_print.proofs.Utf8Forms.{utf8_rooted, utf8_prefix, utf8_with_slash}
+use Rattle.tow_print.proofs.Formats.{common_again, format_good}
+use Rattle.tow_print.proofs.Good.{EachTextual, Good, text_is, texts_are, template_was, template_good, templates_good}
 
 -- a value that is wanted is there
 pub wanted_is : {A : Type 0} (o : Option A) (kind : Kind) (place : ℕ) (x : A) → wanted o kind place ≡ Ok x → o ≡ Some x

@@ -5,6 +5,7 @@ use Rattle.std.proofs.Common.{refl, sym, ap, ◌∙◌, subst}
 use Rattle.std.proofs.lemmas.Bool.{eqb-true}
 use Rattle.std.proofs.lemmas.List.Folds.{list_all-append}
 use Rattle.std.proofs.lemmas.Slice.Eq.{bytes_eq-Decides}
+use Rattle.std.proofs.lemmas.Bool.{and_parts}
 use mathlib.Core.Logic.{inl, inr}
 use Rattle.tow_model.specs.declared.attribute.Attribute.{Attribute}
 use Rattle.tow_model.specs.declared.attribute.Attribute.TheVariants.{Method, RequestUrl, RelativePath, Query, Status, RequestLine, Protocol, RemoteIp, RemoteHost, Ident, User, Moment, Sent, SentOrDash, RequestField, ResponseField, Param, Cookie, Context}
@@ -14,9 +15,9 @@ use Rattle.tow_model.specs.Tokens.{are_pieces, last_byte}
 use Rattle.tow_model.specs.Templates.{by_letter, by_word, field_named, any_named, spelled_attribute, spelled_piece, spelled_template, long_word, spelled_long}
 use Rattle.tow_model.specs.Laws.{IsFormOf, Spells}
 use Rattle.tow_attr.proofs.Shapes.{last_added}
-use Rattle.tow_print.proofs.PrintPieces.{spelled_before, long_is}
-use Rattle.tow_print.proofs.PrintScans.{is_one_line, IsBraced, in_braces}
-use Rattle.tow_print.proofs.PrintTemplates.{is_closed, is_plain, both, found_row, letter_plain, word_plain, tokens_without, name_token, any_is, KindIs, asked, answered, parameter, cookie, kind_is, own_form, spells_again}
+use Rattle.tow_print.proofs.Pieces.{spelled_before, long_is}
+use Rattle.tow_print.proofs.Scans.{is_one_line, IsBraced, in_braces}
+use Rattle.tow_print.proofs.Templates.{is_closed, is_plain, found_row, letter_plain, word_plain, tokens_without, name_token, any_is, KindIs, asked, answered, parameter, cookie, kind_is, own_form, spells_again}
 
 -- two bytes that open and close no brace, and end with no backslash
 pub record IsShort (spelled : List ℕ) : Type 0 where
@@ -97,8 +98,8 @@ pub data FormIs (a : Attribute) (spelled : List ℕ) : Type 0 where
 -- what is inside braces is in one line with them
 inside_line : (s : ℕ) (inside : List ℕ) → is_one_line (s ∷ 123 ∷ (inside ++ 125 ∷ [])) ≡ true → is_one_line inside ≡ true
 inside_line s inside e =
-    let h = both (not (s == 10)) (is_one_line (123 ∷ (inside ++ 125 ∷ []))) e in
-    (both (is_one_line inside) (is_one_line (125 ∷ [])) (sym (list_all-append (λ b. not (b == 10)) inside (125 ∷ [])) ∙ h.1)).0
+    let h = and_parts (not (s == 10)) (is_one_line (123 ∷ (inside ++ 125 ∷ []))) e in
+    (and_parts (is_one_line inside) (is_one_line (125 ∷ [])) (sym (list_all-append (λ b. not (b == 10)) inside (125 ∷ [])) ∙ h.1)).0
 
 pub form_view : (a : Attribute) (spelled : List ℕ) → IsFormOf a spelled → FormIs a spelled
 form_view a spelled (inl (c, e, l)) = of_letter (letter_plain a c l) (e ∙ letter_own a c l)
@@ -107,7 +108,7 @@ form_view a spelled (inr (inside, n, inl (e, inl w))) =
 form_view a spelled (inr (inside, n, inl (e, inr (kind, name, f, g)))) =
     let k = kind_named a name (kind_is a (kind ∷ []) name g) in
     let line : is_one_line spelled ≡ true → is_one_line (name_in a) ≡ true =
-    λ l. k.line (both (not (44 == 10)) (is_one_line name) (both (not (kind == 10)) (is_one_line (44 ∷ name)) (ap is_one_line (sym f) ∙ inside_line 37 inside (ap is_one_line (sym e) ∙ l))).1).1 in
+    λ l. k.line (and_parts (not (44 == 10)) (is_one_line name) (and_parts (not (kind == 10)) (is_one_line (44 ∷ name)) (ap is_one_line (sym f) ∙ inside_line 37 inside (ap is_one_line (sym e) ∙ l))).1).1 in
     of_name k.named line (subst IsBraced (sym e) (in_braces 37 inside refl n))
 form_view a spelled (inr (inside, n, inr (e, g))) =
     let k = context_named a inside g in

@@ -1,11 +1,11 @@
 -- The printed form of a tree that some text has is a text with that tree.
 use Rattle.tow_model.specs.Laws.{PrintReadsBack}
 use Rattle.tow_model.specs.Fit.{no_counts}
-use Rattle.tow_print.proofs.PrintWhole.{print_reads}
-use Rattle.tow_print.proofs.PrintTextual.{TextualCall, values_are_textual}
-use Rattle.tow_print.proofs.PrintTestCalls.{tests_read, test_utf8}
-use Rattle.tow_print.proofs.PrintActionCalls.{actions_read, action_utf8}
-use Rattle.tow_print.proofs.PrintUtf8Trees.{statements_are_text}
+use Rattle.tow_print.proofs.Whole.{print_reads}
+use Rattle.tow_print.proofs.Textual.{TextualCall, values_are_textual}
+use Rattle.tow_print.proofs.TestCalls.{tests_read, test_utf8}
+use Rattle.tow_print.proofs.ActionCalls.{actions_read, action_utf8}
+use Rattle.tow_print.proofs.Utf8Trees.{statements_are_text}
 
 pub print_is_read_back : PrintReadsBack
 print_is_read_back text tree (raw, reads, (n, fits)) short =

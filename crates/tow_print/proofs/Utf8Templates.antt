@@ -17,9 +17,9 @@ use Rattle.tow_model.specs.Templates.{by_letter, by_word, field_named, any_named
 use Rattle.tow_model.specs.Laws.{IsFormOf, IsNoLiteral, Spells}
 use Rattle.tow_model.specs.Printed.{is_unquotable, written_template, printed_template}
 use Rattle.tow_attr.proofs.Spelled.{templates_are_spelled}
-use Rattle.tow_print.proofs.PrintTextual.{OfEach}
-use Rattle.tow_print.proofs.PrintUtf8.{utf8_ascii, utf8_before, utf8_from, utf8_behind, utf8_behind_ascii, utf8_lowercase}
-use Rattle.tow_print.proofs.PrintUtf8Forms.{utf8_printed}
+use Rattle.tow_print.proofs.Textual.{OfEach}
+use Rattle.tow_print.proofs.Utf8.{utf8_ascii, utf8_before, utf8_from, utf8_behind, utf8_behind_ascii, utf8_lowercase}
+use Rattle.tow_print.proofs.Utf8Forms.{utf8_printed}
 
 -- each piece has a spelling that is UTF-8
 abbrev pub AreSpelt : List Piece → Type 0

@@ -5,7 +5,7 @@ use Rattle.std.proofs.Math.Seq.{take-append_seam}
 use Rattle.tow_model.specs.declared.token.Token.{Token}
 use Rattle.tow_model.specs.Tokens.{CutsUpTo}
 use Rattle.tow_model.specs.Symbols.{Symbol, sign_of, symbols_of}
-use Rattle.tow_print.proofs.PrintShown.{Show}
+use Rattle.tow_print.proofs.Shown.{Show}
 
 drop_front : (front back : List ℕ) → drop (length front) (front ++ back) ≡ back
 drop_front [] back = refl

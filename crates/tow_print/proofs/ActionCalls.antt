@@ -15,16 +15,16 @@ use Rattle.tow_model.specs.Table.{handler_named, handler_parameters}
 use Rattle.tow_model.specs.Templates.{spelled_attribute, common}
 use Rattle.tow_model.specs.Fit.{Counts, Fitted, ◌>>=◌, fault, wanted, givens_of, made_action, is_limit, fit_action}
 use Rattle.tow_model.specs.Printed.{printed_text, printed_prefix, printed_template, printed_array, printed_target, printed_truth, written_template, printed_action}
-use Rattle.tow_print.proofs.PrintPredicates.{Same, bind_ok, ok_pair}
-use Rattle.tow_print.proofs.PrintStatements.{ActionReads, ActionsRead}
-use Rattle.tow_print.proofs.PrintFits.{with_slash}
-use Rattle.tow_print.proofs.PrintActions.{blocking_reads, echo_reads, rewrite_reads, redirect_reads, allowed_reads, response_reads, limit_reads, clear_reads, set_reads, resource_reads, header_reads, access_log_reads}
-use Rattle.tow_print.proofs.PrintTextual.{TextualCall}
-use Rattle.tow_print.proofs.PrintUtf8Forms.{utf8_printed, utf8_truth, utf8_action_call}
-use Rattle.tow_print.proofs.PrintNames.{IsWritable}
-use Rattle.tow_print.proofs.PrintGivens.{common_good}
-use Rattle.tow_print.proofs.PrintFilled.{AreOwn, AreGood, givens_good}
-use Rattle.tow_print.proofs.PrintTestCalls.{each_fine, array_utf8, no_default, this_default, one_given, two_given}
+use Rattle.tow_print.proofs.Predicates.{Same, bind_ok, ok_pair}
+use Rattle.tow_print.proofs.Statements.{ActionReads, ActionsRead}
+use Rattle.tow_print.proofs.Fits.{with_slash}
+use Rattle.tow_print.proofs.Actions.{blocking_reads, echo_reads, rewrite_reads, redirect_reads, allowed_reads, response_reads, limit_reads, clear_reads, set_reads, resource_reads, header_reads, access_log_reads}
+use Rattle.tow_print.proofs.Textual.{TextualCall}
+use Rattle.tow_print.proofs.Utf8Forms.{utf8_printed, utf8_truth, utf8_action_call}
+use Rattle.tow_print.proofs.Names.{IsWritable}
+use Rattle.tow_print.proofs.Givens.{common_good}
+use Rattle.tow_print.proofs.Filled.{AreOwn, AreGood, givens_good}
+use Rattle.tow_print.proofs.TestCalls.{each_fine, array_utf8, no_default, this_default, one_given, two_given}
 
 handlers_own : (name : Handler) → AreOwn (handler_parameters name) (handler_parameters name)
 handlers_own handlers.Set = (refl, λ g e. no_default g e, (refl, λ g e. no_default g e, tt))

@@ -11,7 +11,7 @@ use Rattle.tow_model.specs.Tokens.{begins_piece, opens_brace, are_pieces}
 use Rattle.tow_model.specs.Shapes.{number_of, status_of}
 use Rattle.tow_model.specs.Printed.{is_word}
 use Rattle.tow_attr.proofs.Shapes.{both_left, both_right}
-use Rattle.tow_print.proofs.PrintPaths.{some_then, some_if}
+use Rattle.tow_print.proofs.Paths.{some_then, some_if}
 
 all_same : (ds : List ℕ) → list_all is_ascii_digit ds ≡ all_ascii_digits ds
 all_same [] = refl

@@ -15,14 +15,14 @@ use Rattle.tow_model.specs.Raw.{RawCall}
 use Rattle.tow_model.specs.Table.{the_path, test_named, test_parameters}
 use Rattle.tow_model.specs.Fit.{Counts, ◌>>=◌, wanted, givens_of, made_test, fit_test}
 use Rattle.tow_model.specs.Printed.{printed_text, printed_prefix, printed_template, printed_array, printed_match, written_template, printed_test}
-use Rattle.tow_print.proofs.PrintPredicates.{Same, TestReads, TestsRead, bind_ok, ok_pair}
-use Rattle.tow_print.proofs.PrintFits.{with_slash, spelled_match, true_reads, false_reads, path_reads, prefix_reads, suffix_reads, path_template_reads, regex_reads, method_reads, equals_reads, contains_reads, exists_reads}
-use Rattle.tow_print.proofs.PrintTextual.{OfEach, TextualCall}
-use Rattle.tow_print.proofs.PrintUtf8Forms.{utf8_printed, utf8_texts, utf8_array, utf8_test_call}
-use Rattle.tow_print.proofs.PrintValues.{AreFine}
-use Rattle.tow_print.proofs.PrintGood.{EachTextual, Good}
-use Rattle.tow_print.proofs.PrintGivens.{path_good}
-use Rattle.tow_print.proofs.PrintFilled.{AreOwn, AreGood, givens_good}
+use Rattle.tow_print.proofs.Predicates.{Same, TestReads, TestsRead, bind_ok, ok_pair}
+use Rattle.tow_print.proofs.Fits.{with_slash, spelled_match, true_reads, false_reads, path_reads, prefix_reads, suffix_reads, path_template_reads, regex_reads, method_reads, equals_reads, contains_reads, exists_reads}
+use Rattle.tow_print.proofs.Textual.{OfEach, TextualCall}
+use Rattle.tow_print.proofs.Utf8Forms.{utf8_printed, utf8_texts, utf8_array, utf8_test_call}
+use Rattle.tow_print.proofs.Values.{AreFine}
+use Rattle.tow_print.proofs.Good.{EachTextual, Good}
+use Rattle.tow_print.proofs.Givens.{path_good}
+use Rattle.tow_print.proofs.Filled.{AreOwn, AreGood, givens_good}
 
 pub each_fine : (bs : List (List ℕ)) → EachTextual bs → AreFine bs
 each_fine [] are = tt

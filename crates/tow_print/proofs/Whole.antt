@@ -11,11 +11,11 @@ use Rattle.tow_model.specs.Levels.{ListWithin}
 use Rattle.tow_model.specs.Fit.{Counts, ◌>>=◌, fit_statement, fit_list, no_counts}
 use Rattle.tow_model.specs.Fault.{IsTreeOf}
 use Rattle.tow_model.specs.Printed.{printed_statement, print_of}
-use Rattle.tow_print.proofs.PrintCuts.{show_cuts}
-use Rattle.tow_print.proofs.PrintMarks.{line_ends}
-use Rattle.tow_print.proofs.PrintPredicates.{Same, TestsRead, bind_ok, bind_is, ok_pair}
-use Rattle.tow_print.proofs.PrintShown.{Show, show_then}
-use Rattle.tow_print.proofs.PrintStatements.{OfList, ActionsRead, StatementReads, no_separators, one_separator, statement_reads}
+use Rattle.tow_print.proofs.Cuts.{show_cuts}
+use Rattle.tow_print.proofs.Marks.{line_ends}
+use Rattle.tow_print.proofs.Predicates.{Same, TestsRead, bind_ok, bind_is, ok_pair}
+use Rattle.tow_print.proofs.Shown.{Show, show_then}
+use Rattle.tow_print.proofs.Statements.{OfList, ActionsRead, StatementReads, no_separators, one_separator, statement_reads}
 
 -- the printed form from a place on, as a list that fits the same statements
 record Top (m : Counts) (l at : ℕ) (tree : List Statement) : Type 0 where

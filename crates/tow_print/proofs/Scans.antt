@@ -5,11 +5,12 @@ use Rattle.std.proofs.Common.{refl, sym, ap, ap₂, ◌∙◌, subst, append_ass
 use Rattle.std.proofs.Math.Bool.{and_assoc, and-true}
 use Rattle.std.proofs.lemmas.Bool.{eqb-true}
 use Rattle.std.proofs.lemmas.List.Folds.{list_all-append}
+use Rattle.std.proofs.lemmas.Bool.{and_parts}
 use mathlib.Core.Logic.{inl, inr}
 use Rattle.tow_model.specs.Tokens.{next_is, begins_piece, opens_brace, are_pieces}
 use Rattle.tow_model.proofs.Cut.{sigil}
-use Rattle.tow_print.proofs.PrintTemplates.{is_closed, both}
-use Rattle.tow_print.proofs.PrintWords.{next_is_nil}
+use Rattle.tow_print.proofs.Templates.{is_closed}
+use Rattle.tow_print.proofs.Words.{next_is_nil}
 
 -- no line end among the bytes
 abbrev pub is_one_line : List ℕ → Bool
@@ -22,7 +23,7 @@ pub data IsBraced : List ℕ → Type 0 where
 inside_runs : (inside rest : List ℕ) → is_closed inside ≡ true → are_pieces true (inside ++ 125 ∷ rest) [] ≡ (is_one_line inside && are_pieces false rest [])
 inside_runs [] rest e = refl
 inside_runs (b ∷ inside) rest e =
-    let h = both (not (b == 125)) (is_closed inside) e in
+    let h = and_parts (not (b == 125)) (is_closed inside) e in
     ap (λ t. not (b == 10) && are_pieces t (inside ++ 125 ∷ rest) []) h.0 ∙ ap (λ t. not (b == 10) && t) (inside_runs inside rest h.1)
     ∙ sym (and_assoc (not (b == 10)) (is_one_line inside) (are_pieces false rest []))
 

@@ -10,10 +10,10 @@ use Rattle.tow_model.specs.Templates.{template_of, spelled_piece, common, combin
 use Rattle.tow_model.specs.Fit.{template_at, format_at}
 use Rattle.tow_model.specs.Printed.{written_template}
 use Rattle.tow_attr.proofs.Spelled.{templates_are_spelled}
-use Rattle.tow_print.proofs.PrintFits.{template_is}
-use Rattle.tow_print.proofs.PrintTextual.{IsTextual}
-use Rattle.tow_print.proofs.PrintUtf8Templates.{utf8_common, utf8_combined}
-use Rattle.tow_print.proofs.PrintGood.{IsFormat, template_was, template_good}
+use Rattle.tow_print.proofs.Fits.{template_is}
+use Rattle.tow_print.proofs.Textual.{IsTextual}
+use Rattle.tow_print.proofs.Utf8Templates.{utf8_common, utf8_combined}
+use Rattle.tow_print.proofs.Good.{IsFormat, template_was, template_good}
 
 pub common_again : IsFormat common
 common_again = ((inr refl, utf8_common), λ place. refl)
