@@ -53,7 +53,7 @@ const WRITTEN: [(&[u8], &[u8]); 8] = [
     ),
     (b"GET a HTTP/1.1\r\nHost: a\r\n\r\n", BAD),
     (
-        b"GET / HTTP/1.1\r\nHost: a\r\nContent-Length: 3\r\nTransfer-Encoding: chunked\r\n\r\n",
+        b"GET / HTTP/1.1\r\nHost: a\r\nContent-Length: 3\r\nTransfer-Encoding: chunked\r\n\r\nGET / HTTP/1.1\r\nHost: a\r\n\r\n",
         BAD,
     ),
     (
