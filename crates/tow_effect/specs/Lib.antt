@@ -1,0 +1,4 @@
+pub mod Memory
+pub mod Parts
+pub mod Shown
+pub mod Writes
