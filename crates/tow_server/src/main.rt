@@ -4,6 +4,8 @@
 mod asking;
 mod checking;
 mod compiling;
+#[cfg(test)]
+mod handler_tests;
 mod lines;
 mod loading;
 #[cfg(test)]

@@ -151,7 +151,12 @@ fn texts_are_checked(rt: HostRuntime) -> Result<(), Fail> {
 #[test]
 fn what_is_not_built_is_refused(rt: HostRuntime) -> Result<(), Fail> {
     let alloc = rt.alloc();
-    let rows: [&[u8]; 2] = [b"regex(a) -> echo", b"response-code(204); blocking"];
+    let rows: [&[u8]; 4] = [
+        b"regex(a) -> echo",
+        b"response-code(204); access-log()",
+        b"false -> { request-limit(1) }",
+        b"true -> done else resource('/')",
+    ];
     for text in rows {
         let (status, written) = answered(alloc, &plain(text, GET_HI), &ASK)?;
         assert_eq!(rt; status, Status::Text);

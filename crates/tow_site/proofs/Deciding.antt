@@ -12,10 +12,10 @@ use Rattle.tow_site.specs.Decided.{Decides}
 use Rattle.tow_site.specs.Walking.{Leads, Defaults}
 
 pub decides_text : (tree : List Statement) (q : Request) (m : ℕ) (y : Record) → Leads q m tree 16 (start q) Text y → Decides tree q m y
-decides_text tree q m y l content verdicts = ap walked_of (l.is [] content false (opening verdicts))
+decides_text tree q m y l content verdicts = ap walked_of (l.is [] content false (opening verdicts)).1
 
 pub decides_default : (tree : List Statement) (q : Request) (m : ℕ) (y z : Record) →
     Leads q m tree 16 (start q) DefaultHandler y → Defaults q y z → Decides tree q m z
 decides_default tree q m y z l d content verdicts =
-    ap walked_of (l.is [] content false (opening verdicts))
-    ∙ ap (λ (s : Stand). walked_of (decided s (record (opening verdicts) { looked = true }))) d.is
+    let r = l.is [] content false (opening verdicts) in
+    ap walked_of r.1 ∙ ap (λ (s : Stand). walked_of (decided s (record (opening verdicts) { looked = true }))) (d.is r.0)

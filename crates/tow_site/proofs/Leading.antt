@@ -28,30 +28,28 @@ module _ (q : Request) (m : ℕ) where
   leads_next tree left x y w = record {
     is = λ files content b n.
         let g = given files q m content in
-        walks_is tree left g (at x b) n ∙ ap (after_walk g (again_of tree left g)) (w.is files content b n);
-    same_fields = w.same_fields;
+        let r = w.is files content b n in (r.0, walks_is tree left g (at x b) n ∙ ap (after_walk g (again_of tree left g)) r.1);
   }
 
   pub leads_default : (tree : List Statement) (left : ℕ) (x y : Record) → WalksAll q m tree x ToDefault y → Leads q m tree left x DefaultHandler y
   leads_default tree left x y w = record {
     is = λ files content b n.
         let g = given files q m content in
-        walks_is tree left g (at x b) n ∙ ap (after_walk g (again_of tree left g)) (w.is files content b n);
-    same_fields = w.same_fields;
+        let r = w.is files content b n in (r.0, walks_is tree left g (at x b) n ∙ ap (after_walk g (again_of tree left g)) r.1);
   }
 
   pub leads_stopped : (tree : List Statement) (left : ℕ) (x y : Record) → WalksAll q m tree x Stopped y → Leads q m tree left x Text y
   leads_stopped tree left x y w = record {
     is = λ files content b n.
         let g = given files q m content in
-        walks_is tree left g (at x b) n ∙ ap (after_walk g (again_of tree left g)) (w.is files content b n);
-    same_fields = w.same_fields;
+        let r = w.is files content b n in (r.0, walks_is tree left g (at x b) n ∙ ap (after_walk g (again_of tree left g)) r.1);
   }
 
   pub leads_last : (tree : List Statement) (x y : Record) → WalksAll q m tree x Restarted y → Leads q m tree 0 x Text (answered 500 y)
   leads_last tree x y w = record {
-    is = λ files content b n. let g = given files q m content in ap (after_walk g (again_of tree 0 g)) (w.is files content b n);
-    same_fields = w.same_fields;
+    is = λ files content b n.
+        let g = given files q m content in
+        let r = w.is files content b n in (r.0, ap (after_walk g (again_of tree 0 g)) r.1);
   }
 
   pub leads_again : (tree : List Statement) (left : ℕ) (x y : Record) (who : Answerer) (z : Record) →
@@ -59,6 +57,6 @@ module _ (q : Request) (m : ℕ) where
   leads_again tree left x y who z w l = record {
     is = λ files content b n.
         let g = given files q m content in
-        ap (after_walk g (again_of tree (suc left) g)) (w.is files content b n) ∙ l.is files content b n;
-    same_fields = l.same_fields ∙ w.same_fields;
+        let r = w.is files content b n in
+        let k = l.is files content r.0 n in (k.0, ap (after_walk g (again_of tree (suc left) g)) r.1 ∙ k.1);
   }

@@ -16,21 +16,20 @@ use Rattle.tow_site.specs.declared.walk.Walked.TheVariants.{Next, Stopped, ToDef
 use Rattle.tow_site.specs.Walking.{at, Acts, Walks, WalksAll}
 
 module _ (q : Request) (m : ℕ) where
-  -- the predicate holds of the record x or not, and leaves it as y, which has the same fields
-  pub record Leaves (t : Predicate) (x : Record) (b : Bool) (y : Record) : Type 0 where
-    pub is : holds_of t q x m ≡ record { holds = b; state = y }
-    pub same_fields : y.fields ≡ x.fields
+  -- the predicate holds of the record x or not, and leaves it as y
+  abbrev pub Leaves : Predicate → Record → Bool → Record → Type 0
+  Leaves t x b y = holds_of t q x m ≡ record { holds = b; state = y }
 
-  pub walks_act : (a : Action) (x : Record) (end : Walked) (y : Record) → Acts a x end y → Walks q m (st.Act a) x end y
+  pub walks_act : (a : Action) (x : Record) (end : Walked) (y : Record) → Acts q m a x end y → Walks q m (st.Act a) x end y
   walks_act a x end y h = record {
-    is = λ files content b n. walk_act (given files q m content) a (at x b) n ∙ h.is (given files q m content) b n;
-    same_fields = h.same_fields;
+    is = λ files content b n.
+        let r = h.is files content b n in (r.0, walk_act (given files q m content) a (at x b) n ∙ r.1);
   }
 
   pub walks_block : (ts : List Statement) (x : Record) (end : Walked) (y : Record) → WalksAll q m ts x end y → Walks q m (st.Block ts) x end y
   walks_block ts x end y h = record {
-    is = λ files content b n. walk_block (given files q m content) ts (at x b) n ∙ h.is files content b n;
-    same_fields = h.same_fields;
+    is = λ files content b n.
+        let r = h.is files content b n in (r.0, walk_block (given files q m content) ts (at x b) n ∙ r.1);
   }
 
   -- where a predicate's answer leads
@@ -41,55 +40,59 @@ module _ (q : Request) (m : ℕ) where
       Leaves t x true y → Walks q m a y end z → Walks q m (st.When t a other) x end z
   walks_then t a None x y end z h w = record {
     is = λ files content b n.
-        walk_when (given files q m content) t a (at x b) n
-        ∙ ap (led (walk_one (given files q m content) a) (walk_other None) (at x b) n) h.is ∙ w.is files content b n;
-    same_fields = w.same_fields ∙ h.same_fields;
+        let r = w.is files content b n in
+        (r.0, walk_when (given files q m content) t a (at x b) n ∙ ap (led (walk_one (given files q m content) a) (walk_other None) (at x b) n) h ∙ r.1);
   }
   walks_then t a (Some o) x y end z h w = record {
     is = λ files content b n.
-        walk_when_else (given files q m content) t a o (at x b) n
-        ∙ ap (led (walk_one (given files q m content) a) (walk_one (given files q m content) o) (at x b) n) h.is ∙ w.is files content b n;
-    same_fields = w.same_fields ∙ h.same_fields;
+        let r = w.is files content b n in (
+          r.0,
+          walk_when_else (given files q m content) t a o (at x b) n
+              ∙ ap (led (walk_one (given files q m content) a) (walk_one (given files q m content) o) (at x b) n) h ∙ r.1,
+        );
   }
 
   pub walks_else : (t : Predicate) (a o : Statement) (x y : Record) (end : Walked) (z : Record) →
       Leaves t x false y → Walks q m o y end z → Walks q m (st.When t a (Some o)) x end z
   walks_else t a o x y end z h w = record {
     is = λ files content b n.
-        walk_when_else (given files q m content) t a o (at x b) n
-        ∙ ap (led (walk_one (given files q m content) a) (walk_one (given files q m content) o) (at x b) n) h.is ∙ w.is files content b n;
-    same_fields = w.same_fields ∙ h.same_fields;
+        let r = w.is files content b n in (
+          r.0,
+          walk_when_else (given files q m content) t a o (at x b) n
+              ∙ ap (led (walk_one (given files q m content) a) (walk_one (given files q m content) o) (at x b) n) h ∙ r.1,
+        );
   }
 
   pub walks_on : (t : Predicate) (a : Statement) (x y : Record) → Leaves t x false y → Walks q m (st.When t a None) x Next y
   walks_on t a x y h = record {
     is = λ files content b n.
-        walk_when (given files q m content) t a (at x b) n ∙ ap (led (walk_one (given files q m content) a) (walk_other None) (at x b) n) h.is;
-    same_fields = h.same_fields;
+        (b, walk_when (given files q m content) t a (at x b) n ∙ ap (led (walk_one (given files q m content) a) (walk_other None) (at x b) n) h);
   }
 
   pub walks_none : (x : Record) → WalksAll q m [] x Next x
-  walks_none x = record { is = λ files content b n. refl; same_fields = refl }
+  walks_none x = record { is = λ files content b n. (b, refl) }
 
   pub walks_next : (t : Statement) (ts : List Statement) (x y : Record) (end : Walked) (z : Record) →
       Walks q m t x Next y → WalksAll q m ts y end z → WalksAll q m (t ∷ ts) x end z
   walks_next t ts x y end z w v = record {
-    is = λ files content b n. ap (λ (a : Answer). and_then a (walk (given files q m content) ts)) (w.is files content b n) ∙ v.is files content b n;
-    same_fields = v.same_fields ∙ w.same_fields;
+    is = λ files content b n.
+        let r = w.is files content b n in
+        let k = v.is files content r.0 n in
+        (k.0, ap (λ (a : Answer). and_then a (walk (given files q m content) ts)) r.1 ∙ k.1);
   }
 
   pub walks_end : (t : Statement) (ts : List Statement) (x : Record) (end : Walked) (y : Record) →
       end ≢ Next → Walks q m t x end y → WalksAll q m (t ∷ ts) x end y
   walks_end t ts x Next y other w = absurd (other refl)
   walks_end t ts x Stopped y other w = record {
-    is = λ files content b n. ap (λ (a : Answer). and_then a (walk (given files q m content) ts)) (w.is files content b n);
-    same_fields = w.same_fields;
+    is = λ files content b n.
+        let r = w.is files content b n in (r.0, ap (λ (a : Answer). and_then a (walk (given files q m content) ts)) r.1);
   }
   walks_end t ts x ToDefault y other w = record {
-    is = λ files content b n. ap (λ (a : Answer). and_then a (walk (given files q m content) ts)) (w.is files content b n);
-    same_fields = w.same_fields;
+    is = λ files content b n.
+        let r = w.is files content b n in (r.0, ap (λ (a : Answer). and_then a (walk (given files q m content) ts)) r.1);
   }
   walks_end t ts x Restarted y other w = record {
-    is = λ files content b n. ap (λ (a : Answer). and_then a (walk (given files q m content) ts)) (w.is files content b n);
-    same_fields = w.same_fields;
+    is = λ files content b n.
+        let r = w.is files content b n in (r.0, ap (λ (a : Answer). and_then a (walk (given files q m content) ts)) r.1);
   }

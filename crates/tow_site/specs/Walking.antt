@@ -1,5 +1,5 @@
 -- What the code's walk tells of a request at a moment. Each fact holds whatever the walk is not given: the folder, the
--- content, the verdicts, and whether only a worker may go on.
+-- content, the verdicts, and whether only a worker may go on, before and behind.
 use Rattle.std.specs.Prelude.{◌≡◌, ℕ, Bool, false, List, [], Option}
 use Rattle.tow_model.specs.declared.action.Action.{Action}
 use Rattle.tow_model.specs.declared.content.Content.{Content}
@@ -28,23 +28,20 @@ answer_of Stopped s n = model.Stopped s n
 answer_of ToDefault s n = model.ToDefault s n
 answer_of Restarted s n = model.Restarted s n
 
--- the action takes the record x to y, which has the same fields
-pub record Acts (a : Action) (x : Record) (end : Walked) (y : Record) : Type 0 where
-  pub is : (g : Given) (b : Bool) (n : Notes) →
-      act_answer g (effect_of a g.request x g.moment) (marked a (at x b)) n ≡ answer_of end (at y b) n
-  pub same_fields : y.fields ≡ x.fields
+-- the action takes the record x to y
+pub record Acts (q : Request) (m : ℕ) (a : Action) (x : Record) (end : Walked) (y : Record) : Type 0 where
+  pub is : (files : Files) (content : Option Content) (b : Bool) (n : Notes) →
+      (c : Bool) × (act_answer (given files q m content) (effect_of a q x m) (marked a (at x b)) n ≡ answer_of end (at y c) n)
 
--- for this request at this moment the statement does
+-- the statement does
 pub record Walks (q : Request) (m : ℕ) (t : Statement) (x : Record) (end : Walked) (y : Record) : Type 0 where
   pub is : (files : Files) (content : Option Content) (b : Bool) (n : Notes) →
-      walk_one (given files q m content) t (at x b) n ≡ answer_of end (at y b) n
-  pub same_fields : y.fields ≡ x.fields
+      (c : Bool) × (walk_one (given files q m content) t (at x b) n ≡ answer_of end (at y c) n)
 
 -- the statements do
 pub record WalksAll (q : Request) (m : ℕ) (ts : List Statement) (x : Record) (end : Walked) (y : Record) : Type 0 where
   pub is : (files : Files) (content : Option Content) (b : Bool) (n : Notes) →
-      walk (given files q m content) ts (at x b) n ≡ answer_of end (at y b) n
-  pub same_fields : y.fields ≡ x.fields
+      (c : Bool) × (walk (given files q m content) ts (at x b) n ≡ answer_of end (at y c) n)
 
 abbrev pub outcome_by : Answerer → Given → Stand → Notes → Outcome
 outcome_by Text g s n = decided s n
@@ -53,9 +50,8 @@ outcome_by DefaultHandler g s n = by_default g s n
 -- the walks over the text, with so many restarts left, take the record x to y
 pub record Leads (q : Request) (m : ℕ) (tree : List Statement) (left : ℕ) (x : Record) (who : Answerer) (y : Record) : Type 0 where
   pub is : (files : Files) (content : Option Content) (b : Bool) (n : Notes) →
-      walks (given files q m content) tree left (at x b) n ≡ outcome_by who (given files q m content) (at y b) n
-  pub same_fields : y.fields ≡ x.fields
+      (c : Bool) × (walks (given files q m content) tree left (at x b) n ≡ outcome_by who (given files q m content) (at y c) n)
 
 -- over the empty folder the default handler takes the record x to y
 pub record Defaults (q : Request) (x y : Record) : Type 0 where
-  pub is : default_stand (page_of [] [] false q x) (at x false) ≡ at y false
+  pub is : (b : Bool) → default_stand (page_of [] [] false q x) (at x b) ≡ at y b

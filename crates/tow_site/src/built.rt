@@ -4,8 +4,7 @@ ghost use Rattle.tow_site.specs.Built as built;
 
 use tow_model::{Action, Statement, Tree};
 
-/// Whether the walk of a tree is built: each of its actions answers, begins again or goes to the default handler. Takes no
-/// memory.
+/// Whether the walk of a tree is built: none of its actions waits for something or adds a listener. Takes no memory.
 pub fn is_built(tree: &Tree) -> bool
     ensures { result ≡ built.is_built tree.now }
 {
@@ -44,8 +43,11 @@ fn is_built_statement(statement: &Statement) -> bool
 fn is_built_action(action: &Action) -> bool
     ensures { result ≡ built.is_built_action action.now }
 {
-    matches!(
+    !matches!(
         action,
-        Action::ResponseCode(_) | Action::Restart | Action::Done
+        Action::RequestLimit { .. }
+            | Action::Resource { .. }
+            | Action::AccessLog { .. }
+            | Action::Echo
     )
 }

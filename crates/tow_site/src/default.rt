@@ -2,9 +2,9 @@ ghost use Rattle.std.specs.Prelude.{◌≡◌, [], ◌∷◌, OnOk, codes};
 ghost use Rattle.tow_model.specs.Texts.{is_among};
 ghost use Rattle.tow_site.specs.Walking.{Defaults};
 
-use crate::answer::answer;
-use std::alloc::{AllocError, Global};
-use tow_model::{Bytes, Choice, Field, Record, Request};
+use std::alloc::Global;
+use tow_effect::{answer, set_field};
+use tow_model::{Bytes, Choice, NoMemory, Record, Request};
 
 /// Answers as the default handler does over an empty folder: with 405 to a method other than GET and HEAD, and else with
 /// 404. Takes memory for the field that names the methods.
@@ -12,18 +12,16 @@ pub fn answer_by_default(
     alloc: Global,
     request: &Request,
     state: &mut Record,
-) -> Result<(), AllocError>
-    requires { state.old.fields ≡ [] }
+) -> Result<(), NoMemory>
     ensures defaults { OnOk result (Defaults request.now state.old state.new) }
     ensures empty { OnOk result (state.new.choice ≡ Choice.Empty) }
 {
     if is_served(request.method.as_slice()) {
-        answer(state, 404);
+        answer(404, state);
     } else {
-        let name = Bytes::from_slice(alloc, b"allow")?;
-        let value = Bytes::from_slice(alloc, b"GET, HEAD")?;
-        state.fields.push(Field { name, value })?;
-        answer(state, 405);
+        let methods = Bytes::from_slice(alloc, b"GET, HEAD")?;
+        set_field(alloc, &mut state.fields, b"allow", methods)?;
+        answer(405, state);
     }
     Ok(())
 }

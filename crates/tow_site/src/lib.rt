@@ -1,9 +1,8 @@
 //! A site: a handlers text that compiles, and what it makes of a request. `compile` gives the site or the text's first
-//! fault. So far `outcome` walks a tree with all tests and the actions that answer, begin again or go to the default handler,
-//! and the default handler is that over an empty folder.
+//! fault. So far `outcome` walks a tree with all tests, and with all actions but those that wait for something or add a
+//! listener; the default handler is that over an empty folder.
 #![tactic(auto)]
 
-mod answer;
 mod built;
 #[cfg(test)]
 mod compile_tests;

@@ -9,11 +9,11 @@ ghost use Rattle.tow_site.specs.Decided.{Decides};
 ghost use Rattle.tow_site.specs.Walking.{Leads};
 ghost use Rattle.std.specs.List.{list_all};
 
-use crate::answer::answer;
 use crate::default::answer_by_default;
 use crate::site::Site;
 use crate::walk::{Walked, walk_list};
 use std::alloc::{AllocError, Global};
+use tow_effect::answer;
 use tow_model::{Bytes, Choice, List, NoMemory, Record, Request, Statement};
 use tow_pred::Scratch;
 
@@ -82,7 +82,7 @@ fn walk_again(
         Walked::Stopped => Ok(Answerer::Text),
         Walked::Restarted => {
             if left == 0 {
-                answer(state, 500);
+                answer(500, state);
                 return Ok(Answerer::Text);
             }
             state.context = List::new(alloc);

@@ -131,6 +131,24 @@ fn request(alloc: Global, method: &[u8], path: &[u8]) -> Result<Request, AllocEr
     })
 }
 
+/// Texts, and the fields that they make for a GET of `/a/b`.
+const FIELDS: [(&[u8], &[(&[u8], &[u8])]); 5] = [
+    (
+        b"header(header=x, value=1); header(header=x, value=2, override=false)",
+        &[(b"x", b"1"), (b"x", b"2")],
+    ),
+    (
+        b"header(header=x, value=1); set(attribute='%{o,X}', value='%R'); clear('%{o,y}')",
+        &[(b"x", b"/a/b")],
+    ),
+    (
+        b"header(header=x, value=1); path-prefix(/a) -> rewrite('${remaining}'); redirect('%R c')",
+        &[(b"x", b"1"), (b"location", b"/b%20c")],
+    ),
+    (b"header(header=x, value=1); restart", &[(b"x", b"1")]),
+    (b"allowed-methods(PUT)", &[(b"allow", b"PUT")]),
+];
+
 /// What the text makes of the request.
 fn record_of(alloc: Global, text: &[u8], method: &[u8], path: &[u8]) -> Result<Record, Fail> {
     let site = match compile(alloc, text, &mut PackMaker::new()) {
@@ -162,5 +180,18 @@ fn a_method_that_is_not_allowed(rt: HostRuntime) -> Result<(), Fail> {
     let field = record.fields.get(0).ok_or("no field")?;
     assert_eq!(rt; field.name.as_slice(), b"allow".as_slice());
     assert_eq!(rt; field.value.as_slice(), b"GET, HEAD".as_slice());
+    Ok(())
+}
+
+#[test]
+fn fields(rt: HostRuntime) -> Result<(), Fail> {
+    for (i, (text, fields)) in FIELDS.iter().enumerate() {
+        let record = record_of(rt.alloc(), text, b"GET", b"/a/b")?;
+        assert_eq!(rt; record.fields.len(), fields.len(), "row {i}");
+        for (field, want) in record.fields.as_slice().iter().zip(fields.iter()) {
+            assert!(rt; field.name.as_slice() == want.0, "row {i}");
+            assert!(rt; field.value.as_slice() == want.1, "row {i}");
+        }
+    }
     Ok(())
 }

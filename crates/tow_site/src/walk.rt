@@ -6,8 +6,8 @@ ghost use Rattle.tow_pred.specs.Numbering.{statement_patterns, tree_patterns};
 ghost use Rattle.tow_site.specs.Built.{is_built_action, is_built_statement};
 ghost use Rattle.tow_site.specs.Walking.{Acts, Walks, WalksAll};
 
-use crate::answer::answer;
 use std::alloc::Global;
+use tow_effect::{Effect, effect};
 use tow_model::{Action, Choice, NoMemory, Record, Request, Statement};
 use tow_pred::{Scratch, holds};
 
@@ -76,7 +76,7 @@ fn walk_statement(
                 Ok(Walked::Next)
             }
         }
-        Statement::Act(action) => Ok(act(action, state)),
+        Statement::Act(action) => act(alloc, action, request, state, moment),
         Statement::Block(parts) => {
             let parts = parts.as_slice();
             walk_list(alloc, scratch, parts, request, state, moment)
@@ -84,18 +84,25 @@ fn walk_statement(
     }
 }
 
-fn act(action: &Action, state: &mut Record) -> Walked
-    requires { IsTrue (is_built_action action.now) }
-    ensures acts { Acts action.now state.old result state.new }
-    ensures empty { result ≡ Walked.Stopped → state.new.choice ≡ Choice.Empty }
+/// Does what an action says. Takes memory for what it writes.
+fn act(
+    alloc: Global,
+    action: &Action,
+    request: &Request,
+    state: &mut Record,
+    moment: u64,
+) -> Result<Walked, NoMemory>
+    requires built { IsTrue (is_built_action action.now) }
+    requires dated { moment < first_undated }
+    ensures acts { IfOk result (λ end. Acts request.now moment action.now state.old end state.new) }
+    ensures empty { IfOk result (λ end. end ≡ Walked.Stopped → state.new.choice ≡ Choice.Empty) }
 {
-    match action {
-        Action::ResponseCode(status) => {
-            answer(state, *status);
-            Walked::Stopped
-        }
-        Action::Restart => Walked::Restarted,
-        Action::Done => Walked::ToDefault,
-        _ => unreachable!(),
+    match effect(alloc, action, request, state, moment) {
+        Effect::Go => Ok(Walked::Next),
+        Effect::Stop => Ok(Walked::Stopped),
+        Effect::Restart => Ok(Walked::Restarted),
+        Effect::ToDefault => Ok(Walked::ToDefault),
+        Effect::Ask(_) | Effect::Content | Effect::Page { .. } => unreachable!(),
+        Effect::NoMemory => Err(NoMemory),
     }
 }

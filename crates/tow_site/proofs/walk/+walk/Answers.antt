@@ -41,13 +41,13 @@ walk_statement-walk_list-requires t c = (
 pub walk_statement-returns-then-branch-clause-walks : goal.walk_statement-returns-then-branch-clause-walks
 walk_statement-returns-then-branch-clause-walks t c =
     let h : Leaves c.args.request.now c.args.moment c.in-When.test c.args.state.now _ c.holds.new.state =
-    record { is = rw c.if-branch.true at c.in_ok-holds-in-When.ensures.holds; same_fields = ap (λ (x : Record). x.fields) c.in_ok-holds-in-When.ensures.rest } in
+    rw c.if-branch.true at c.in_ok-holds-in-When.ensures.holds in
     rw c.in-When.is (IfOk-weaker c.walk_statement.result _ _ (λ end w. walks_then _ _ _ _ _ _ _ _ _ h w) (rw c.get.ensures at c.walk_statement.ensures.walks))
 
 pub walk_statement-returns-in-Some-clause-walks : goal.walk_statement-returns-in-Some-clause-walks
 walk_statement-returns-in-Some-clause-walks t c =
     let h : Leaves c.args.request.now c.args.moment c.in-When.test c.args.state.now _ c.holds.new.state =
-    record { is = rw c.if-branch.false at c.in_ok-holds-in-When.ensures.holds; same_fields = ap (λ (x : Record). x.fields) c.in_ok-holds-in-When.ensures.rest } in
+    rw c.if-branch.false at c.in_ok-holds-in-When.ensures.holds in
     rw (c.in-When.is, c.in-Some.is)
     (IfOk-weaker c.walk_statement-in-Some.result _ _ (λ end w. walks_else _ _ _ _ _ _ _ _ _ h w) (rw c.get-in-Some.ensures at c.walk_statement-in-Some.ensures.walks))
 
@@ -55,10 +55,10 @@ pub walk_statement-returns-in_default-clause-walks : goal.walk_statement-returns
 walk_statement-returns-in_default-clause-walks t c =
     rw (c.in-When.is, c.in_default.is)
     (walks_on _ _ _ _ _ _
-    (record { is = rw c.if-branch.false at c.in_ok-holds-in-When.ensures.holds; same_fields = ap (λ (x : Record). x.fields) c.in_ok-holds-in-When.ensures.rest }))
+    (rw c.if-branch.false at c.in_ok-holds-in-When.ensures.holds))
 
 pub walk_statement-returns-in-Act-clause-walks : goal.walk_statement-returns-in-Act-clause-walks
-walk_statement-returns-in-Act-clause-walks t c = rw c.in-Act.is (walks_act _ _ _ _ _ _ c.act.ensures.acts)
+walk_statement-returns-in-Act-clause-walks t c = rw c.in-Act.is (IfOk-weaker c.act.result _ _ (λ end h. walks_act _ _ _ _ _ _ h) c.act.ensures.acts)
 
 pub walk_statement-returns-in-Block-clause-walks : goal.walk_statement-returns-in-Block-clause-walks
 walk_statement-returns-in-Block-clause-walks t c =
