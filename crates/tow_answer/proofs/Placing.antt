@@ -1,7 +1,7 @@
 -- Fields that are put in their places one after another.
 use Rattle.std.proofs.Common.{◌≡◌, ℕ, List, [], ◌∷◌, ◌++◌, take, drop, refl, ap}
 use Rattle.tow_model.specs.declared.request.Field.{Field}
-use Rattle.tow_model.specs.Answers.{placed, sorted}
+use Rattle.tow_wire.specs.Answers.{placed, sorted}
 
 -- these fields put among sorted ones, the last of them first
 abbrev pub placed_all : List Field → List Field → List Field

@@ -1,8 +1,8 @@
 ghost use Rattle.std.specs.Prelude.{◌≡◌, ◌<◌, ℕ, List, Bool, false, Option, IfOk};
 ghost use Rattle.tow_model.specs.declared.content.Content.{Content};
-ghost use Rattle.tow_model.specs.Answers.{answer, answer_of};
+ghost use Rattle.tow_wire.specs.Answers.{answer, answer_of};
 ghost use Rattle.tow_model.specs.Dates.{first_undated};
-ghost use Rattle.tow_model.specs.Runs.{Ending};
+ghost use Rattle.tow_semantics.specs.Runs.{Ending};
 
 use crate::closes::closes;
 use crate::fields::{push_connection, push_date, push_length};

@@ -1,7 +1,7 @@
 ghost use Rattle.std.specs.Prelude.{◌≡◌, ℕ, false, Option};
 ghost use Rattle.tow_model.specs.declared.content.Content.{Content};
-ghost use Rattle.tow_model.specs.Answers.{closes, is_old, is_too_long};
-ghost use Rattle.tow_model.specs.Runs.{Ending};
+ghost use Rattle.tow_wire.specs.Answers.{closes, is_old, is_too_long};
+ghost use Rattle.tow_semantics.specs.Runs.{Ending};
 
 use crate::fields::known_length;
 use tow_model::{Choice, Framing, Request, Version};

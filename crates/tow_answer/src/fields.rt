@@ -1,5 +1,5 @@
 ghost use Rattle.std.specs.Prelude.{◌≡◌, ◌<◌, ◌++◌, ◌∷◌, [], OnOk, IfOk, codes, decimal};
-ghost use Rattle.tow_model.specs.Answers.{connection_fields, is_bare, known_length, length_fields};
+ghost use Rattle.tow_wire.specs.Answers.{connection_fields, is_bare, known_length, length_fields};
 ghost use Rattle.tow_model.specs.Dates.{date_of, first_undated};
 ghost use Rattle.tow_model.specs.Fields.{field};
 

@@ -1,5 +1,5 @@
 ghost use Rattle.std.specs.Prelude.{◌≡◌, ◌<◌, ◌∷◌, [], IfOk, codes};
-ghost use Rattle.tow_model.specs.Answers.{refusal_text};
+ghost use Rattle.tow_wire.specs.Answers.{refusal_text};
 ghost use Rattle.tow_model.specs.Dates.{date_of, first_undated};
 ghost use Rattle.tow_model.specs.Fields.{field};
 

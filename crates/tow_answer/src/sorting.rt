@@ -1,5 +1,5 @@
 ghost use Rattle.std.specs.Prelude.{◌≡◌, ◌≤◌, IfOk, OnOk, insert, length};
-ghost use Rattle.tow_model.specs.Answers.{placed, sorted};
+ghost use Rattle.tow_wire.specs.Answers.{placed, sorted};
 ghost use Rattle.tow_model.specs.Lists.{bytes_le};
 
 use std::alloc::{AllocError, Global};

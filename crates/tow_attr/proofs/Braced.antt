@@ -8,9 +8,9 @@ use mathlib.Core.Logic.{inl, inr}
 use Rattle.tow_model.specs.declared.attribute.Attribute.{Attribute}
 use Rattle.tow_model.specs.declared.attribute.Attribute.TheVariants.{Context}
 use Rattle.tow_model.specs.declared.attribute.Piece.TheVariants.{Literal, Value}
-use Rattle.tow_model.specs.Templates.{by_letter, by_word, by_kind, any_named, in_percent_brace, piece_of}
-use Rattle.tow_model.specs.Laws.{IsFormOf}
-use Rattle.tow_model.proofs.Cut.{sigil}
+use Rattle.tow_language.specs.Templates.{by_letter, by_word, by_kind, any_named, in_percent_brace, piece_of}
+use Rattle.tow_language.specs.Laws.{IsFormOf}
+use Rattle.tow_language.proofs.Cut.{sigil}
 use Rattle.tow_attr.proofs.Shapes.{IsShape, two, braced, same_number, is_inside}
 
 -- the bytes without the last

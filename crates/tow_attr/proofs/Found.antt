@@ -10,7 +10,7 @@ use Rattle.tow_model.specs.declared.request.Field.{Field}
 use Rattle.percent_encoding.specs.Percent.{percent_decode}
 use Rattle.tow_model.specs.Texts.{Text, cut_at, trimmed}
 use Rattle.tow_model.specs.Fields.{is_named, values_of, bound_to}
-use Rattle.tow_model.specs.Values.{decoded, joined, name_and_value, or_empty, query_parameters}
+use Rattle.tow_semantics.specs.Values.{decoded, joined, name_and_value, or_empty, query_parameters}
 use Rattle.tow_attr.specs.Finding.{cookie_pieces, cookies_of, is_cookie, is_parameter}
 
 -- JOINED VALUES

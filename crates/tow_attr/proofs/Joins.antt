@@ -5,7 +5,7 @@ use Rattle.std.proofs.lemmas.List.{append-nil}
 use Rattle.tow_model.specs.declared.attribute.Attribute.{Attribute}
 use Rattle.tow_model.specs.declared.attribute.Piece.{Piece}
 use Rattle.tow_model.specs.declared.attribute.Piece.TheVariants.{Literal, Value}
-use Rattle.tow_model.specs.Templates.{with_first}
+use Rattle.tow_language.specs.Templates.{with_first}
 use Rattle.tow_attr.specs.Reading.{literal_of, with_literal, ahead, plain_ahead}
 
 pub with_literal_twice : (xs ys : List ℕ) (ps : List Piece) → with_literal xs (with_literal ys ps) ≡ with_literal (xs ++ ys) ps

@@ -5,7 +5,7 @@ use Rattle.std.proofs.Common.{refl, sym, ◌∙◌, ap, ap₂, arith, rules}
 use Rattle.http_header.specs.Token.{token_test, is_token_byte, AllPass, lowercase}
 use Rattle.http_header.specs.FieldName.{IsFieldName, is_field_name}
 use Rattle.http_header.proofs.TokenLemmas.{IsFieldName-from_test}
-use Rattle.tow_model.specs.Templates.{field_named}
+use Rattle.tow_language.specs.Templates.{field_named}
 
 all_tokens : (bytes : List ℕ) → AllPass is_token_byte bytes → list_all token_test bytes ≡ true
 unfolding is_token_byte

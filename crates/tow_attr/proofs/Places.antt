@@ -6,7 +6,7 @@ use Rattle.std.proofs.lemmas.List.Folds.{drop_split}
 use Rattle.tow_model.specs.declared.attribute.Attribute.{Attribute}
 use Rattle.tow_model.specs.declared.attribute.Piece.{Piece}
 use Rattle.tow_model.specs.declared.attribute.Piece.TheVariants.{Literal, Value}
-use Rattle.tow_model.specs.Templates.{begins_value, piece_of, with_first, template_from}
+use Rattle.tow_language.specs.Templates.{begins_value, piece_of, with_first, template_from}
 use Rattle.tow_model.proofs.Spans.{byte_then, none_then, span_none, span_step, span_more, span_end, span_length}
 use Rattle.tow_attr.specs.Reading.{literal_of, ahead, rest_from, plain_ahead}
 use Rattle.tow_attr.proofs.Shapes.{IsShape, two, braced, is_inside, shape_reads, begin_reads, open_reads}

@@ -4,9 +4,9 @@ use Rattle.std.specs.List.{list_all}
 use Rattle.std.proofs.Common.{refl, sym, ◌∙◌, ap, ap₂, subst, rules, append_assoc}
 use mathlib.Core.Logic.{inl, inr}
 use Rattle.tow_model.specs.declared.attribute.Piece.TheVariants.{Literal}
-use Rattle.tow_model.specs.Tokens.{last_byte}
-use Rattle.tow_model.specs.Templates.{piece_of, begins_value, with_first, template_from}
-use Rattle.tow_model.proofs.Cut.{sigil}
+use Rattle.tow_language.specs.Tokens.{last_byte}
+use Rattle.tow_language.specs.Templates.{piece_of, begins_value, with_first, template_from}
+use Rattle.tow_language.proofs.Cut.{sigil}
 
 abbrev pub is_inside : ℕ → Bool
 is_inside b = not (b == 125)

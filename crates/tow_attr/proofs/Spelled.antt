@@ -8,10 +8,10 @@ use mathlib.Core.Logic.{inl, inr}
 use Rattle.tow_model.specs.declared.attribute.Attribute.{Attribute}
 use Rattle.tow_model.specs.declared.attribute.Piece.{Piece}
 use Rattle.tow_model.specs.declared.attribute.Piece.TheVariants.{Literal, Value}
-use Rattle.tow_model.specs.Tokens.{next_is}
-use Rattle.tow_model.specs.Templates.{begins_value, piece_of, spelled_piece, with_piece, with_first, template_from, template_of}
-use Rattle.tow_model.specs.Laws.{IsFormOf, has_no_context, IsNoLiteral, Spells, BeginsNoPiece, TemplatesSpelled, TemplateFaults}
-use Rattle.tow_model.proofs.Cut.{sigil}
+use Rattle.tow_language.specs.Tokens.{next_is}
+use Rattle.tow_language.specs.Templates.{begins_value, piece_of, spelled_piece, with_piece, with_first, template_from, template_of}
+use Rattle.tow_language.specs.Laws.{IsFormOf, has_no_context, IsNoLiteral, Spells, BeginsNoPiece, TemplatesSpelled, TemplateFaults}
+use Rattle.tow_language.proofs.Cut.{sigil}
 use Rattle.tow_attr.specs.Reading.{plain_ahead}
 use Rattle.tow_attr.proofs.Shapes.{IsShape, two, braced, IsShapeless, shape_reads, shape_or_open, one_shape, not_true, both_left, both_right, same_number}
 use Rattle.tow_attr.proofs.Braced.{form_is, is_form, is_percent}

@@ -5,7 +5,7 @@ use Rattle.percent_encoding.specs.Percent.{percent_decode}
 use Rattle.tow_model.specs.declared.request.Field.{Field}
 use Rattle.tow_model.specs.Texts.{Text, before, cut_at, trimmed}
 use Rattle.tow_model.specs.Fields.{is_named, values_of}
-use Rattle.tow_model.specs.Values.{name_and_value}
+use Rattle.tow_semantics.specs.Values.{name_and_value}
 
 -- the parameter has the name, when that is decoded
 abbrev pub is_parameter : Text → Text → Bool

@@ -3,7 +3,7 @@ use Rattle.std.specs.Prelude.{ℕ, List, [], ◌∷◌, ◌++◌, drop, Result}
 use Rattle.std.specs.Result.{result_map_both}
 use Rattle.tow_model.specs.declared.attribute.Piece.{Piece}
 use Rattle.tow_model.specs.declared.attribute.Piece.TheVariants.{Literal}
-use Rattle.tow_model.specs.Templates.{with_piece, template_from}
+use Rattle.tow_language.specs.Templates.{with_piece, template_from}
 
 -- the piece that the bytes are, where there are any
 abbrev pub literal_of : List ℕ → List Piece

@@ -1,6 +1,6 @@
 ghost use Rattle.std.specs.Prelude.{◌≡◌, ◌<◌, ◌++◌, OnOk, codes, option_map};
 ghost use Rattle.tow_model.specs.Dates.{first_undated};
-ghost use Rattle.tow_model.specs.Values.{attribute_of, or_empty, protocol, query_parameters};
+ghost use Rattle.tow_semantics.specs.Values.{attribute_of, or_empty, protocol, query_parameters};
 ghost use Rattle.tow_model.specs.Fields.{bound_to};
 
 use crate::content::{append_sent_or_dash, sent};

@@ -2,7 +2,7 @@ ghost use Rattle.std.specs.Prelude.{◌≡◌, ◌<◌, ◌==◌, ◌≢◌, [],
 ghost use Rattle.std.specs.Map.{lookup};
 ghost use Rattle.tow_model.specs.declared.attribute.Piece.TheVariants as pieces;
 ghost use Rattle.tow_model.specs.declared.attribute.Attribute.TheVariants as attributes;
-ghost use Rattle.tow_model.specs.Templates.{by_letter, by_word, by_kind, field_named, any_named, in_percent_brace, piece_of};
+ghost use Rattle.tow_language.specs.Templates.{by_letter, by_word, by_kind, field_named, any_named, in_percent_brace, piece_of};
 
 use http_header::{HeaderName, HeaderNameError};
 use std::alloc::{AllocError, Global};

@@ -1,7 +1,7 @@
 //! How many bytes of content an answer has.
 
 ghost use Rattle.std.specs.Prelude.{◌≡◌, ◌++◌, ◌==◌, OnOk, codes, decimal, if◌then◌else◌};
-ghost use Rattle.tow_model.specs.Values.{choice_length, has_content, sent};
+ghost use Rattle.tow_semantics.specs.Values.{choice_length, has_content, sent};
 
 use crate::digits::append_decimal;
 use std::alloc::AllocError;

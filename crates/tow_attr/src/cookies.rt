@@ -4,7 +4,7 @@ ghost use Rattle.std.specs.Prelude.{◌≡◌, ◌++◌, OnOk, find, flat_map};
 ghost use Rattle.std.specs.Option.{option_copied};
 ghost use Rattle.tow_model.specs.Fields.{bound_to};
 ghost use Rattle.tow_model.specs.Texts.{trimmed};
-ghost use Rattle.tow_model.specs.Values.{or_empty};
+ghost use Rattle.tow_semantics.specs.Values.{or_empty};
 ghost use Rattle.tow_attr.specs.Finding.{cookie_pieces, cookies_of, is_cookie};
 
 use crate::binding::{name_of, value_of};

@@ -1,7 +1,7 @@
 //! Numbers in decimal.
 
 ghost use Rattle.std.specs.Prelude.{◌≡◌, ◌++◌, OnOk, decimal};
-ghost use Rattle.tow_model.specs.Values.{dotted};
+ghost use Rattle.tow_semantics.specs.Values.{dotted};
 
 use itoa::Buffer;
 use std::alloc::AllocError;

@@ -4,7 +4,7 @@ ghost use Rattle.std.specs.Prelude.{◌≡◌, ◌++◌, Bool, OnOk, codes, find
 ghost use Rattle.std.specs.Option.{option_copied};
 ghost use Rattle.std.specs.Str.{bytes_eq};
 ghost use Rattle.tow_model.specs.Fields.{bound_to, is_named, values_of};
-ghost use Rattle.tow_model.specs.Values.{joined, or_empty};
+ghost use Rattle.tow_semantics.specs.Values.{joined, or_empty};
 
 use std::alloc::AllocError;
 use tow_model::{Bytes, Field, List};

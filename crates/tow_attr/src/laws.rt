@@ -1,6 +1,6 @@
 //! Laws of what templates mean, each the contract of a function without a body.
 
-ghost use Rattle.tow_model.specs.Laws.{TemplatesSpelled, TemplateFaults};
+ghost use Rattle.tow_language.specs.Laws.{TemplatesSpelled, TemplateFaults};
 
 /// A template is read from exactly the texts that spell it, in some form that the table allows.
 pub fn templates_spelled()

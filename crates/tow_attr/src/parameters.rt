@@ -6,7 +6,7 @@ ghost use Rattle.std.specs.Str.{byte, bytes_eq};
 ghost use Rattle.percent_encoding.specs.Percent.{percent_decode};
 ghost use Rattle.tow_model.specs.Fields.{bound_to};
 ghost use Rattle.tow_model.specs.Texts.{cut_at};
-ghost use Rattle.tow_model.specs.Values.{or_empty, query_parameters};
+ghost use Rattle.tow_semantics.specs.Values.{or_empty, query_parameters};
 ghost use Rattle.tow_attr.specs.Finding.{is_parameter};
 
 use crate::binding::{name_of, value_of};

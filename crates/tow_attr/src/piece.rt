@@ -1,6 +1,6 @@
 ghost use Rattle.std.specs.Prelude.{◌≡◌, ◌≢◌, ◌+◌, ◌<◌, ◌≤◌, true, length, slice_index, slice_range, drop, IfSome, IfNone, Err};
-ghost use Rattle.tow_model.specs.Tokens.{next_is};
-ghost use Rattle.tow_model.specs.Templates.{begins_value, piece_of, with_first};
+ghost use Rattle.tow_language.specs.Tokens.{next_is};
+ghost use Rattle.tow_language.specs.Templates.{begins_value, piece_of, with_first};
 ghost use Rattle.tow_attr.specs.Reading.{rest_from, plain_ahead};
 
 /// Whether the byte stands at the place.

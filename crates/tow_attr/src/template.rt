@@ -1,5 +1,5 @@
 ghost use Rattle.std.specs.Prelude.{◌≡◌, ◌+◌, ◌<◌, ◌≤◌, ℕ, true, length, slice_index, drop, IfOk, IfErr, IsErrOf, Ok, Err};
-ghost use Rattle.tow_model.specs.Templates.{begins_value, template_of};
+ghost use Rattle.tow_language.specs.Templates.{begins_value, template_of};
 ghost use Rattle.tow_attr.specs.Reading.{ahead, rest_from};
 
 use crate::attribute::read_attribute;

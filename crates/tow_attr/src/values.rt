@@ -1,6 +1,6 @@
 ghost use Rattle.std.specs.Prelude.{◌≡◌, ◌<◌, ◌++◌, IfOk, OnOk, flat_map, take};
 ghost use Rattle.tow_model.specs.Dates.{first_undated};
-ghost use Rattle.tow_model.specs.Values.{longest_value, piece_of, value_of};
+ghost use Rattle.tow_semantics.specs.Values.{longest_value, piece_of, value_of};
 
 use crate::append::append_attribute;
 use std::alloc::{AllocError, Global};

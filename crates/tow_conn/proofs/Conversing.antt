@@ -5,13 +5,13 @@ use Rattle.tow_model.specs.declared.content.Content.TheVariants.{Whole}
 use Rattle.tow_model.specs.declared.request.Framing.{Framing}
 use Rattle.tow_model.specs.declared.request.Framing.TheVariants.{Empty}
 use Rattle.tow_model.specs.declared.request.Request.{Request}
-use Rattle.tow_model.specs.Answers.{refusal_text}
-use Rattle.tow_model.specs.Contents.{HasContent}
-use Rattle.tow_model.specs.Runs.{Run}
-use Rattle.tow_model.specs.Stream.{Stream, nothing, refused, last, next, IsBlank, IsNoRequest, IsRefused, HasRequest, Reads}
-use Rattle.tow_model.specs.Wire.{meet, left_by, goes_on, wire_from}
-use Rattle.tow_model.proofs.ContentLemmas.{content_is_one}
-use Rattle.tow_model.proofs.StreamLemmas.{blank_has_none, one_request, refused_is_none, whole_is_some, bytes_of_whole, stream_is_one}
+use Rattle.tow_wire.specs.Answers.{refusal_text}
+use Rattle.tow_message.specs.Contents.{HasContent}
+use Rattle.tow_semantics.specs.Runs.{Run}
+use Rattle.tow_message.specs.Stream.{Stream, nothing, refused, last, next, IsBlank, IsNoRequest, IsRefused, HasRequest, Reads}
+use Rattle.tow_wire.specs.Wire.{meet, left_by, goes_on, wire_from}
+use Rattle.tow_message.proofs.ContentLemmas.{content_is_one}
+use Rattle.tow_message.proofs.StreamLemmas.{blank_has_none, one_request, refused_is_none, whole_is_some, bytes_of_whole, stream_is_one}
 use Rattle.tow_conn.specs.Conversations.{local_peer, no_content, Leads, Ends, Answers}
 
 -- no step

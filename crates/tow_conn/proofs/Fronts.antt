@@ -6,8 +6,8 @@ use Rattle.std.proofs.Math.Seq.{take-append_seam}
 use Rattle.httparse.specs.Grammar.{RequestHead, print_request}
 use Rattle.httparse.proofs.GrammarLemmas.{ReadsRequest-append}
 use Rattle.tow_model.specs.declared.request.Request.{Request}
-use Rattle.tow_model.specs.Heads.{HasHead, Head, is_unserved}
-use Rattle.tow_model.specs.Stream.{IsBlank, IsNoRequest, IsRefused, HasRequest}
+use Rattle.tow_message.specs.Heads.{HasHead, Head, is_unserved}
+use Rattle.tow_message.specs.Stream.{IsBlank, IsNoRequest, IsRefused, HasRequest}
 use Rattle.tow_conn.proofs.Served.{served_head}
 use Rattle.tow_request.specs.NextHead.{IsHopeless}
 

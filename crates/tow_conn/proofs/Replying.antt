@@ -5,10 +5,10 @@ use Rattle.tow_model.specs.declared.content.Content.{Content}
 use Rattle.tow_model.specs.declared.record.Record.{Record}
 use Rattle.tow_model.specs.declared.request.Request.{Request}
 use Rattle.tow_model.specs.declared.statement.Statement.{Statement}
-use Rattle.tow_model.specs.Answers.{answer, answer_of, closes, is_too_long, continue_text}
-use Rattle.tow_model.specs.Runs.{Run, Walked, Ending}
-use Rattle.tow_model.specs.Sites.{run_of}
-use Rattle.tow_model.specs.Wire.{text_of, goes_on}
+use Rattle.tow_wire.specs.Answers.{answer, answer_of, closes, is_too_long, continue_text}
+use Rattle.tow_semantics.specs.Runs.{Run, Walked, Ending}
+use Rattle.tow_semantics.specs.Sites.{run_of}
+use Rattle.tow_wire.specs.Wire.{text_of, goes_on}
 use Rattle.tow_site.specs.Decided.{settled, Decides}
 use Rattle.tow_conn.specs.Conversations.{no_content, Answers}
 

@@ -12,8 +12,8 @@ use Rattle.tow_model.specs.declared.request.Version.{Version}
 use Rattle.tow_model.specs.declared.request.Version.TheVariants.{V10, V11}
 use Rattle.tow_model.specs.Texts.{Text}
 use Rattle.tow_model.specs.Fields.{is_named, has}
-use Rattle.tow_model.specs.Heads.{Head, IsRefusedBy, refusal, connection_refusal, is_framed, is_unserved, fields_of, framing_of, version_of, expects_by}
-use Rattle.tow_model.specs.Stream.{HasRequest, IsNoRequest, IsRefused}
+use Rattle.tow_message.specs.Heads.{Head, IsRefusedBy, refusal, connection_refusal, is_framed, is_unserved, fields_of, framing_of, version_of, expects_by}
+use Rattle.tow_message.specs.Stream.{HasRequest, IsNoRequest, IsRefused}
 use Rattle.tow_request.specs.NextHead.{IsHopeless}
 use Rattle.tow_model.proofs.Resolving.{neither}
 use Rattle.tow_request.proofs.Fronts.{front_has}

@@ -10,10 +10,10 @@ use Rattle.tow_link.specs.Runs.{AppendsPart}
 use Rattle.tow_link.proofs.Appending.{append_known-append}
 use Rattle.tow_model.specs.declared.request.Request.{Request}
 use Rattle.tow_model.specs.declared.statement.Statement.{Statement}
-use Rattle.tow_model.specs.Answers.{refusal_text}
-use Rattle.tow_model.specs.Stream.{IsBlank, IsNoRequest, IsRefused, Reads}
-use Rattle.tow_model.specs.Sites.{run_of}
-use Rattle.tow_model.specs.Wire.{wire_from}
+use Rattle.tow_wire.specs.Answers.{refusal_text}
+use Rattle.tow_message.specs.Stream.{IsBlank, IsNoRequest, IsRefused, Reads}
+use Rattle.tow_semantics.specs.Sites.{run_of}
+use Rattle.tow_wire.specs.Wire.{wire_from}
 use Rattle.tow_model.specs.declared.account.End.{End}
 use Rattle.tow_conn.specs.declared.progress.Progress.{Progress}
 use Rattle.tow_conn.specs.declared.progress.Turn.{Turn}

@@ -3,9 +3,9 @@ use Rattle.std.specs.Prelude.{◌≡◌, ℕ, Bool, not, List, [], ◌++◌, Opt
 use Rattle.tow_model.specs.declared.content.Content.{Content}
 use Rattle.tow_model.specs.declared.content.Content.TheVariants.{Whole}
 use Rattle.tow_model.specs.declared.request.Request.{Request}
-use Rattle.tow_model.specs.Runs.{Run}
-use Rattle.tow_model.specs.Stream.{Stream, Reads}
-use Rattle.tow_model.specs.Wire.{meet, left_by, text_of, goes_on, wire_from}
+use Rattle.tow_semantics.specs.Runs.{Run}
+use Rattle.tow_message.specs.Stream.{Stream, Reads}
+use Rattle.tow_wire.specs.Wire.{meet, left_by, text_of, goes_on, wire_from}
 
 -- 127.0.0.1, the peer of standard input
 abbrev pub local_peer : ℕ

@@ -5,9 +5,9 @@ use Rattle.tow_link.specs.Data.{Told}
 use Rattle.tow_link.specs.Calls.{IsDrained}
 use Rattle.tow_link.specs.Runs.{AppendsPart}
 use Rattle.tow_model.specs.declared.statement.Statement.{Statement}
-use Rattle.tow_model.specs.Stream.{Stream, Reads}
-use Rattle.tow_model.specs.Sites.{run_of}
-use Rattle.tow_model.specs.Wire.{wire, wire_from}
+use Rattle.tow_message.specs.Stream.{Stream, Reads}
+use Rattle.tow_semantics.specs.Sites.{run_of}
+use Rattle.tow_wire.specs.Wire.{wire, wire_from}
 use Rattle.tow_conn.specs.declared.progress.Progress.{Progress}
 use Rattle.tow_conn.specs.Conversations.{local_peer, Leads}
 

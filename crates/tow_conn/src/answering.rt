@@ -1,7 +1,7 @@
 ghost use Rattle.std.specs.Prelude.{◌≡◌, ◌≢◌, ◌≤◌, ◌+◌, ◌⊎◌, ℕ, List, Option, IfSome, IsTrue, false, length, take, drop};
 ghost use Rattle.tow_link.specs.Data.{Rose, Told};
-ghost use Rattle.tow_model.specs.Heads.{Head, is_unserved};
-ghost use Rattle.tow_model.specs.Stream.{IsNoRequest, IsRefused};
+ghost use Rattle.tow_message.specs.Heads.{Head, is_unserved};
+ghost use Rattle.tow_message.specs.Stream.{IsNoRequest, IsRefused};
 ghost use Rattle.tow_request.specs.NextHead.{IsHopeless};
 ghost use Rattle.tow_site.specs.Built.{is_built};
 ghost use Rattle.tow_site.specs.Compiled.{pattern_texts};

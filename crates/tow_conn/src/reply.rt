@@ -1,6 +1,6 @@
 ghost use Rattle.std.specs.Prelude.{◌≡◌, ◌<◌, ℕ, [], false, true, IfOk, IsTrue};
 ghost use Rattle.tow_model.specs.Dates.{first_undated};
-ghost use Rattle.tow_model.specs.Sites.{run_of};
+ghost use Rattle.tow_semantics.specs.Sites.{run_of};
 ghost use Rattle.tow_site.specs.Built.{is_built};
 ghost use Rattle.tow_site.specs.Compiled.{pattern_texts};
 ghost use Rattle.tow_conn.specs.Conversations.{Answers};

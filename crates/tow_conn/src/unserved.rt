@@ -1,6 +1,6 @@
 ghost use Rattle.std.specs.Prelude.{◌≡◌};
 ghost use Rattle.tow_model.specs.Fields.{has};
-ghost use Rattle.tow_model.specs.Heads.{is_unserved};
+ghost use Rattle.tow_message.specs.Heads.{is_unserved};
 
 use tow_model::{Field, Framing, Request, Version};
 

@@ -2,9 +2,9 @@
 use Rattle.std.proofs.Common.{◌≡◌, ◌∙◌, Option, IfSome, ap, sym}
 use Rattle.std.specs.Option.{unwrap_or}
 use Rattle.tow_model.specs.declared.record.Record.{Record}
-use Rattle.tow_model.specs.Effects.{Takes}
-use Rattle.tow_model.specs.Steps.{Go}
-use Rattle.tow_model.specs.Writing.{or_unchanged}
+use Rattle.tow_semantics.specs.Effects.{Takes}
+use Rattle.tow_semantics.specs.Steps.{Go}
+use Rattle.tow_semantics.specs.Writing.{or_unchanged}
 use Rattle.tow_effect.specs.declared.outcome.Assign.{Assign}
 use Rattle.tow_effect.specs.declared.outcome.Assign.TheVariants.{Assigned, BadValue, NoMemory}
 use Rattle.tow_effect.specs.Shown.{of_write, shown}

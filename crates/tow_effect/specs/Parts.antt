@@ -3,10 +3,10 @@ use Rattle.std.specs.Prelude.{Bool, true, false, Option}
 use Rattle.std.specs.Option.{option_or}
 use Rattle.std.specs.Str.{byte}
 use Rattle.tow_model.specs.declared.record.Record.{Record}
-use Rattle.tow_model.specs.Effects.{with_header}
+use Rattle.tow_semantics.specs.Effects.{with_header}
 use Rattle.tow_model.specs.Paths.{resolved, rooted}
 use Rattle.tow_model.specs.Texts.{Text, after, before}
-use Rattle.tow_model.specs.Writing.{with_fields}
+use Rattle.tow_semantics.specs.Writing.{with_fields}
 
 -- the path before the first `?`, resolved, and the query behind it, where there is one
 abbrev pub with_path : Text → Record → Record

@@ -3,8 +3,8 @@
 ghost use Rattle.std.specs.Prelude.{◌≡◌, ◌≢◌, ◌<◌, false, IfSome, OnOk, OnErr, if◌then◌else◌};
 ghost use Rattle.std.specs.Result.{is_ok};
 ghost use Rattle.tow_model.specs.Dates.{first_undated};
-ghost use Rattle.tow_model.specs.Effects.{effect_of};
-ghost use Rattle.tow_model.specs.Steps.{listening};
+ghost use Rattle.tow_semantics.specs.Effects.{effect_of};
+ghost use Rattle.tow_semantics.specs.Steps.{listening};
 ghost use Rattle.tow_model.specs.Texts as text_specs;
 ghost use Rattle.tow_effect.specs.Memory.{makes_path, takes_memory};
 ghost use Rattle.tow_effect.specs.Shown.{of_write, shown};

@@ -1,7 +1,7 @@
 //! The methods of a resource (RFC 9110, section 10.2.1).
 
 ghost use Rattle.std.specs.Prelude.{◌≡◌, IfOk};
-ghost use Rattle.tow_model.specs.Values as model;
+ghost use Rattle.tow_semantics.specs.Values as model;
 
 use std::alloc::{AllocError, Global};
 use tow_model::Bytes;

@@ -2,10 +2,10 @@
 
 ghost use Rattle.std.specs.Prelude.{◌≡◌, ◌<◌, OnOk, OnErr};
 ghost use Rattle.tow_model.specs.Dates.{first_undated};
-ghost use Rattle.tow_model.specs.Effects.{not_allowed, redirected};
-ghost use Rattle.tow_model.specs.Steps.{answered};
+ghost use Rattle.tow_semantics.specs.Effects.{not_allowed, redirected};
+ghost use Rattle.tow_semantics.specs.Steps.{answered};
 ghost use Rattle.tow_model.specs.Texts.{escaped, is_visible};
-ghost use Rattle.tow_model.specs.Values.{value_of};
+ghost use Rattle.tow_semantics.specs.Values.{value_of};
 
 use crate::allow::joined;
 use crate::fields::set_field;

@@ -2,7 +2,7 @@
 
 ghost use Rattle.std.specs.Prelude.{◌≡◌, ◌≢◌, false, Some, None, if◌then◌else◌};
 ghost use Rattle.std.specs.Result.{is_ok};
-ghost use Rattle.tow_model.specs.Writing.{assigned};
+ghost use Rattle.tow_semantics.specs.Writing.{assigned};
 ghost use Rattle.tow_effect.specs.Memory.{target_takes_memory};
 
 use crate::fields::bind;

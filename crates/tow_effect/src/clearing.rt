@@ -2,7 +2,7 @@
 
 ghost use Rattle.std.specs.Prelude.{◌≡◌, false, IsOk, OnOk, OnErr, codes};
 ghost use Rattle.tow_model.specs.Texts.{is_empty};
-ghost use Rattle.tow_model.specs.Writing.{cleared};
+ghost use Rattle.tow_semantics.specs.Writing.{cleared};
 ghost use Rattle.tow_effect.specs.Memory.{lacks_path};
 
 use crate::fields::{clear_field, unbind};

@@ -2,7 +2,7 @@
 
 ghost use Rattle.std.specs.Prelude.{◌≡◌, ◌≤◌, ◌↔◌, ◌++◌, ◌∷◌, [], IsTrue, length};
 ghost use Rattle.tow_model.specs.Fields.{field, set_to, without};
-ghost use Rattle.tow_model.specs.Writing.{with_fields};
+ghost use Rattle.tow_semantics.specs.Writing.{with_fields};
 ghost use Rattle.tow_effect.specs.Writes.{Writes};
 
 use crate::fields::{add_field, has_name, set_field};

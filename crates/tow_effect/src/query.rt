@@ -1,7 +1,7 @@
 //! The query.
 
 ghost use Rattle.std.specs.Prelude.{◌≡◌};
-ghost use Rattle.tow_model.specs.Writing as model;
+ghost use Rattle.tow_semantics.specs.Writing as model;
 
 use tow_model::Bytes;
 

@@ -2,7 +2,7 @@
 
 ghost use Rattle.std.specs.Prelude.{◌≡◌, ◌≢◌, ◌<◌, ◌-◌, IsTrue, option_map};
 ghost use Rattle.std.specs.Char.{is_ascii_digit};
-ghost use Rattle.tow_model.specs.Writing as model;
+ghost use Rattle.tow_semantics.specs.Writing as model;
 ghost use Rattle.tow_effect.specs.Writes.{Writes};
 
 use crate::outcome::Assign;

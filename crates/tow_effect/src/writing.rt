@@ -2,8 +2,8 @@
 
 ghost use Rattle.std.specs.Prelude.{◌<◌};
 ghost use Rattle.tow_model.specs.Dates.{first_undated};
-ghost use Rattle.tow_model.specs.Values.{value_of};
-ghost use Rattle.tow_model.specs.Writing.{assigned};
+ghost use Rattle.tow_semantics.specs.Values.{value_of};
+ghost use Rattle.tow_semantics.specs.Writing.{assigned};
 ghost use Rattle.tow_effect.specs.Parts.{headed};
 ghost use Rattle.tow_effect.specs.Writes.{Writes};
 

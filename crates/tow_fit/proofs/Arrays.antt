@@ -1,8 +1,8 @@
 -- The texts of an array.
 use Rattle.std.specs.Prelude.{◌≡◌, ℕ, List, [], ◌∷◌, length, map, Ok}
 use Rattle.std.proofs.Common.{refl, ap}
-use Rattle.tow_model.specs.Fit.{some_texts}
-use Rattle.tow_model.specs.Raw.{Written, array}
+use Rattle.tow_language.specs.Fit.{some_texts}
+use Rattle.tow_language.specs.Raw.{Written, array}
 use Rattle.tow_fit.specs.declared.call.WrittenText.{WrittenText}
 use Rattle.tow_fit.specs.Calls.{written_of}
 use Rattle.tow_fit.specs.Fitting.{bytes_of}

@@ -5,9 +5,9 @@ use Rattle.std.proofs.lemmas.List.Sums.{AllPass-from_list_all, list_all-from_All
 use Rattle.std.proofs.Common.{refl, sym, ◌∙◌, ap₂, arith, rules}
 use Rattle.http_header.specs.FieldName.{is_field_name}
 use Rattle.http_header.specs.Token.{IsToken, is_token_byte, token_test}
-use Rattle.tow_model.specs.declared.kind.Kind.TheVariants.{BadAttribute}
-use Rattle.tow_model.specs.Fit.{TextFault, fault, field_at, is_method}
-use Rattle.tow_model.specs.Templates.{field_named}
+use Rattle.tow_language.specs.declared.kind.Kind.TheVariants.{BadAttribute}
+use Rattle.tow_language.specs.Fit.{TextFault, fault, field_at, is_method}
+use Rattle.tow_language.specs.Templates.{field_named}
 use Rattle.tow_fit.specs.Fitting.{writable_field}
 
 -- what a field's name gives, where it is one

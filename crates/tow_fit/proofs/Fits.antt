@@ -1,18 +1,18 @@
 -- The fit of a call, by its name and its parameters.
 use Rattle.std.specs.Prelude.{◌≡◌, ℕ, true, false, ◌&&◌, nat_le, List, [], Some, Result, Ok, Err, if◌then◌else◌}
 use Rattle.std.proofs.Common.{refl, sym, ◌∙◌, ap}
-use Rattle.tow_model.specs.declared.kind.Kind.TheVariants.{TooManyLimits, UnknownName}
+use Rattle.tow_language.specs.declared.kind.Kind.TheVariants.{TooManyLimits, UnknownName}
 use Rattle.tow_model.specs.declared.action.Action.{Action}
 use Rattle.tow_model.specs.declared.predicate.Test.{Test}
-use Rattle.tow_model.specs.declared.table.Given.{Given}
-use Rattle.tow_model.specs.declared.table.Handler.{Handler}
-use Rattle.tow_model.specs.declared.table.Handler.TheVariants as handlers
-use Rattle.tow_model.specs.declared.table.TestName.{TestName}
-use Rattle.tow_model.specs.declared.table.TestName.TheVariants as tests
-use Rattle.tow_model.specs.Fit as fits
-use Rattle.tow_model.specs.Fit.{TextFault, ◌>>=◌, wanted, paired, found_of, filled, fault, fit_action, fit_test, is_limit, made_action, made_test}
-use Rattle.tow_model.specs.Raw.{Written, RawValue, RawParameters, RawCall}
-use Rattle.tow_model.specs.Table.{Parameter, handler_named, handler_parameters, test_named, test_parameters}
+use Rattle.tow_language.specs.declared.table.Given.{Given}
+use Rattle.tow_language.specs.declared.table.Handler.{Handler}
+use Rattle.tow_language.specs.declared.table.Handler.TheVariants as handlers
+use Rattle.tow_language.specs.declared.table.TestName.{TestName}
+use Rattle.tow_language.specs.declared.table.TestName.TheVariants as tests
+use Rattle.tow_language.specs.Fit as fits
+use Rattle.tow_language.specs.Fit.{TextFault, ◌>>=◌, wanted, paired, found_of, filled, fault, fit_action, fit_test, is_limit, made_action, made_test}
+use Rattle.tow_language.specs.Raw.{Written, RawValue, RawParameters, RawCall}
+use Rattle.tow_language.specs.Table.{Parameter, handler_named, handler_parameters, test_named, test_parameters}
 use Rattle.tow_fit.specs.declared.fault.ParseFault.{ParseFault}
 use Rattle.tow_fit.specs.Faults.{Fails}
 use Rattle.tow_fit.proofs.Parameters.{fails_then}

@@ -4,12 +4,12 @@ use Rattle.std.specs.List.{list_any}
 use Rattle.std.specs.Map.{lookup}
 use Rattle.std.proofs.Common.{refl, sym, ◌∙◌, ap, subst, append_assoc, arith}
 use Rattle.std.proofs.lemmas.Slice.Eq.{bytes_eq-Decides}
-use Rattle.tow_model.specs.declared.table.Given.{Given}
-use Rattle.tow_model.specs.declared.kind.Kind.TheVariants.{BadParameter}
-use Rattle.tow_model.specs.Fit as fits
-use Rattle.tow_model.specs.Fit.{TextFault, ◌>>=◌, wanted, place_of, given_of, gathered, unused, found_of}
-use Rattle.tow_model.specs.Raw.{Written, RawValue, unnamed}
-use Rattle.tow_model.specs.Table.{Parameter, takes_array}
+use Rattle.tow_language.specs.declared.table.Given.{Given}
+use Rattle.tow_language.specs.declared.kind.Kind.TheVariants.{BadParameter}
+use Rattle.tow_language.specs.Fit as fits
+use Rattle.tow_language.specs.Fit.{TextFault, ◌>>=◌, wanted, place_of, given_of, gathered, unused, found_of}
+use Rattle.tow_language.specs.Raw.{Written, RawValue, unnamed}
+use Rattle.tow_language.specs.Table.{Parameter, takes_array}
 use Rattle.tow_fit.specs.declared.fault.ParseFault.{ParseFault}
 use Rattle.tow_fit.specs.declared.fitting.parameters.Found.{Found}
 use Rattle.tow_fit.specs.Faults.{Fails, parse_fault}

@@ -6,7 +6,7 @@ use Rattle.tow_fit.proofs.Slashes.{one_less}
 use denote.Ref.{Bor}
 use Rattle.tow_model.specs.declared.predicate.Segment.{Segment}
 use Rattle.tow_model.specs.declared.predicate.Segment.TheVariants.{Fixed, Bind}
-use Rattle.tow_model.specs.Shapes.{all_some, are_names_apart, before_brace, segment_of}
+use Rattle.tow_language.specs.Shapes.{all_some, are_names_apart, before_brace, segment_of}
 use Rattle.tow_fit.specs.Fitting.{is_bound_in}
 
 first_apart : (part : Segment) (parts : List Segment) (t : Bool) → is_bound_in part parts ≡ t → are_names_apart (part ∷ parts) ≡ (not t && are_names_apart parts)

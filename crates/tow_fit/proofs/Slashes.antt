@@ -2,7 +2,7 @@
 use Rattle.std.specs.Prelude.{◌≡◌, ℕ, ◌+◌, ◌-◌, ◌<◌, ◌≤◌, ◌==◌, false, List, [], ◌∷◌, ◌++◌, length, get_or, take}
 use Rattle.std.proofs.Common.{refl, sym, ◌∙◌, ap, arith, rules}
 use Rattle.std.proofs.lemmas.List.{take_more}
-use Rattle.tow_model.specs.Shapes.{without_last_slashes}
+use Rattle.tow_language.specs.Shapes.{without_last_slashes}
 
 -- a `/` at the end goes
 pub slash_goes : (path : List ℕ) → without_last_slashes (path ++ 47 ∷ []) ≡ without_last_slashes path

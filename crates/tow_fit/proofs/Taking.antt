@@ -5,12 +5,12 @@ use Rattle.std.specs.Map.{lookup}
 use Rattle.std.specs.Option.{option_or}
 use Rattle.std.proofs.Common.{refl, sym, ◌∙◌, ap, subst, add-one, drop-cons, arith}
 use Rattle.std.proofs.lemmas.Slice.Eq.{bytes_eq-Decides}
-use Rattle.tow_model.specs.declared.kind.Kind.TheVariants.{BadParameter}
-use Rattle.tow_model.specs.declared.table.Given.{Given}
-use Rattle.tow_model.specs.Fit as fits
-use Rattle.tow_model.specs.Fit.{TextFault, ◌>>=◌, wanted, filled}
-use Rattle.tow_model.specs.Raw.{RawParameters}
-use Rattle.tow_model.specs.Table.{Parameter}
+use Rattle.tow_language.specs.declared.kind.Kind.TheVariants.{BadParameter}
+use Rattle.tow_language.specs.declared.table.Given.{Given}
+use Rattle.tow_language.specs.Fit as fits
+use Rattle.tow_language.specs.Fit.{TextFault, ◌>>=◌, wanted, filled}
+use Rattle.tow_language.specs.Raw.{RawParameters}
+use Rattle.tow_language.specs.Table.{Parameter}
 use Rattle.tow_fit.specs.declared.fitting.parameters.Found.{Found}
 use Rattle.tow_fit.specs.Fitting.{found_as, found_in}
 use Rattle.tow_fit.specs.declared.fault.ParseFault.{ParseFault}

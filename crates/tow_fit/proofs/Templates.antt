@@ -3,7 +3,7 @@ use Rattle.std.specs.Prelude.{◌≡◌, ℕ, ◌+◌, ◌<◌, List, [], ◌∷
 use Rattle.std.proofs.Common.{refl, sym, ◌∙◌, ap, subst, append_assoc, add-one, drop-cons}
 use Rattle.std.proofs.lemmas.List.{append-nil}
 use Rattle.tow_model.specs.declared.attribute.Piece.{Piece}
-use Rattle.tow_model.specs.Fit.{TextFault, template_at, templates_at, ◌>>=◌}
+use Rattle.tow_language.specs.Fit.{TextFault, template_at, templates_at, ◌>>=◌}
 use Rattle.tow_fit.specs.declared.fault.ParseFault.{ParseFault}
 use Rattle.tow_fit.specs.Faults.{Fails, parse_fault}
 use Rattle.tow_fit.specs.Fitting.{joined}

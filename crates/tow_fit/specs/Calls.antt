@@ -1,7 +1,7 @@
 -- What the written parts of a call stand for.
 use Rattle.std.specs.Prelude.{map}
-use Rattle.tow_model.specs.Raw.{Written, RawValue, one, array, RawParameters, unnamed, named, RawCall}
-use Rattle.tow_model.specs.Fit as fits
+use Rattle.tow_language.specs.Raw.{Written, RawValue, one, array, RawParameters, unnamed, named, RawCall}
+use Rattle.tow_language.specs.Fit as fits
 use Rattle.tow_fit.specs.declared.call.WrittenText.{WrittenText}
 use Rattle.tow_fit.specs.declared.call.WrittenValue.{WrittenValue}
 use Rattle.tow_fit.specs.declared.call.WrittenValue.TheVariants as values

@@ -1,20 +1,20 @@
 -- What a fit has in hand while it reads a call.
 use Rattle.std.specs.Prelude.{◌≡◌, ℕ, Bool, false, ◌==◌, ◌&&◌, ◌||◌, nat_le, length, map, List, [], ◌∷◌, ◌++◌, Option, Some, None, Result, Ok, Err, option_map, if◌then◌else◌}
-use Rattle.tow_model.specs.declared.table.Given.{Given}
-use Rattle.tow_model.specs.declared.table.Given.TheVariants as givens
-use Rattle.tow_model.specs.declared.kind.Kind.TheVariants.{BadParameter, BadTarget}
-use Rattle.tow_model.specs.Fit as fits
-use Rattle.tow_model.specs.Fit.{TextFault, fault, wanted, ◌>>=◌, place_of, given_of, gathered, paired, unused, found_of}
-use Rattle.tow_model.specs.Raw.{Written, RawValue, RawParameters}
-use Rattle.tow_model.specs.declared.table.Shape.{Shape}
+use Rattle.tow_language.specs.declared.table.Given.{Given}
+use Rattle.tow_language.specs.declared.table.Given.TheVariants as givens
+use Rattle.tow_language.specs.declared.kind.Kind.TheVariants.{BadParameter, BadTarget}
+use Rattle.tow_language.specs.Fit as fits
+use Rattle.tow_language.specs.Fit.{TextFault, fault, wanted, ◌>>=◌, place_of, given_of, gathered, paired, unused, found_of}
+use Rattle.tow_language.specs.Raw.{Written, RawValue, RawParameters}
+use Rattle.tow_language.specs.declared.table.Shape.{Shape}
 use Rattle.tow_fit.specs.declared.fitting.parameters.Found.{Found}
-use Rattle.tow_model.specs.Shapes.{all_some, binds, is_kept_field, is_name_byte, segment_of}
+use Rattle.tow_language.specs.Shapes.{all_some, binds, is_kept_field, is_name_byte, segment_of}
 use Rattle.tow_model.specs.Texts.{cut_at}
 use Rattle.tow_model.specs.declared.predicate.Segment.{Segment}
 use Rattle.tow_model.specs.declared.predicate.Segment.TheVariants.{Fixed, Bind}
 use Rattle.std.specs.List.{list_all, list_any}
-use Rattle.tow_model.specs.Table.{Parameter, takes_array, the_path}
-use Rattle.tow_model.specs.Templates.{common}
+use Rattle.tow_language.specs.Table.{Parameter, takes_array, the_path}
+use Rattle.tow_language.specs.Templates.{common}
 use Rattle.tow_fit.specs.declared.call.WrittenText.{WrittenText}
 use Rattle.tow_fit.specs.declared.fault.ParseFault.{ParseFault}
 use Rattle.tow_fit.specs.declared.fitting.table.Standard.{Standard}

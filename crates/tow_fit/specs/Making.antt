@@ -3,16 +3,16 @@ use Rattle.std.specs.Prelude.{ℕ, Bool, true, not, ◌&&◌, nat_le, List, [], 
 use Rattle.std.specs.List.{list_any}
 use Rattle.std.specs.Map.{lookup}
 use Rattle.std.specs.Option.{option_or}
-use Rattle.tow_model.specs.declared.kind.Kind.TheVariants.{BadParameter, TooManyLimits}
+use Rattle.tow_language.specs.declared.kind.Kind.TheVariants.{BadParameter, TooManyLimits}
 use Rattle.tow_model.specs.declared.action.Action.{Action}
 use Rattle.tow_model.specs.declared.predicate.Test.{Test}
-use Rattle.tow_model.specs.declared.table.Given.{Given}
-use Rattle.tow_model.specs.declared.table.Handler.{Handler}
-use Rattle.tow_model.specs.declared.table.TestName.{TestName}
-use Rattle.tow_model.specs.Fit as fits
-use Rattle.tow_model.specs.Fit.{TextFault, Fitted, ◌>>=◌, fault, wanted, filled, is_limit, made_action, made_test}
-use Rattle.tow_model.specs.Raw.{RawParameters}
-use Rattle.tow_model.specs.Table.{Parameter, handler_parameters, test_parameters}
+use Rattle.tow_language.specs.declared.table.Given.{Given}
+use Rattle.tow_language.specs.declared.table.Handler.{Handler}
+use Rattle.tow_language.specs.declared.table.TestName.{TestName}
+use Rattle.tow_language.specs.Fit as fits
+use Rattle.tow_language.specs.Fit.{TextFault, Fitted, ◌>>=◌, fault, wanted, filled, is_limit, made_action, made_test}
+use Rattle.tow_language.specs.Raw.{RawParameters}
+use Rattle.tow_language.specs.Table.{Parameter, handler_parameters, test_parameters}
 use Rattle.tow_fit.specs.declared.fitting.givens.Givens.{Givens}
 use Rattle.tow_fit.specs.declared.fitting.givens.Givens.TheVariants as all
 use Rattle.tow_fit.specs.Fitting.{found_in}

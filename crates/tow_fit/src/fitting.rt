@@ -1,7 +1,7 @@
 //! What a call stands for by the tables of predicates and handlers.
 
 ghost use Rattle.std.specs.Prelude.{◌≡◌, ◌&&◌, Ok, IfOk, IfErr, nat_le};
-ghost use Rattle.tow_model.specs.Fit as fits;
+ghost use Rattle.tow_language.specs.Fit as fits;
 ghost use Rattle.tow_fit.specs.Calls.{call_of, counts_of, parameters_of};
 ghost use Rattle.tow_fit.specs.Faults.{Fails};
 ghost use Rattle.tow_fit.specs.Making.{action_in, test_in};
@@ -30,7 +30,8 @@ use crate::fitting::made::made_test;
 use crate::fitting::names::{handler_named, test_named};
 use crate::fitting::table::{handler_rows, test_rows};
 use std::alloc::Global;
-use tow_model::{Action, Handler, Test, TestName};
+use tow_language::{Handler, TestName};
+use tow_model::{Action, Test};
 
 /// How many limits a text has at most.
 const MOST_LIMITS: u32 = 16;

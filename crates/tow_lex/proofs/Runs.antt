@@ -3,7 +3,7 @@ use Rattle.std.specs.Prelude.{◌≡◌, ℕ, ◌+◌, ◌<◌, ◌≤◌, ◌==
 use Rattle.std.proofs.Common.{sym, ◌∙◌, ap, ap₂, arith, rules}
 use Rattle.std.proofs.lemmas.List.Folds.{drop_split}
 use Rattle.std.specs.List.{list_all}
-use Rattle.tow_model.specs.Tokens.{is_white, begins_piece, opens_brace, are_pieces, no_piece, is_quote, are_escaped, last_byte, is_open, IsQuoted, IsOpenQuote, IsOpenBrace}
+use Rattle.tow_language.specs.Tokens.{is_white, begins_piece, opens_brace, are_pieces, no_piece, is_quote, are_escaped, last_byte, is_open, IsQuoted, IsOpenQuote, IsOpenBrace}
 use Rattle.tow_lex.specs.Scan.{Leads}
 use Rattle.tow_model.proofs.Spans.{byte_then, none_then, span_none, span_step, span_more, span_end}
 

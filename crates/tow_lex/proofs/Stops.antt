@@ -7,14 +7,14 @@ use Rattle.std.proofs.Common.{sym, ◌∙◌, ap, subst, arith, rules, length-dr
 use Rattle.std.proofs.lemmas.List.Folds.{drop_split}
 use Rattle.std.proofs.lemmas.Str.{utf8_valid_len-IsUtf8, utf8_valid_len-IsValidUpTo}
 use mathlib.Core.Logic.{inl, inr}
-use Rattle.tow_model.specs.declared.kind.Kind.{Kind}
-use Rattle.tow_model.specs.declared.kind.Kind.TheVariants as kinds
-use Rattle.tow_model.specs.declared.token.Token.{Token}
-use Rattle.tow_model.specs.declared.token.TokenKind.{TokenKind}
-use Rattle.tow_model.specs.declared.token.TokenKind.TheVariants.{Quoted, Word}
-use Rattle.tow_model.specs.Tokens.{is_white, are_pieces, CutsUpTo, Reaches, HasFault, IsTokenFault, IsOpenBrace}
-use Rattle.tow_model.proofs.Cut.{IsStuck, over, quote, stray, brace, one_cut, one_open, quote_kind, open_kind, stray_kind, kind_at}
-use Rattle.tow_model.proofs.Kept.{quote_fault, stray_fault, brace_fault, one_stop, kinds_apart}
+use Rattle.tow_language.specs.declared.kind.Kind.{Kind}
+use Rattle.tow_language.specs.declared.kind.Kind.TheVariants as kinds
+use Rattle.tow_language.specs.declared.token.Token.{Token}
+use Rattle.tow_language.specs.declared.token.TokenKind.{TokenKind}
+use Rattle.tow_language.specs.declared.token.TokenKind.TheVariants.{Quoted, Word}
+use Rattle.tow_language.specs.Tokens.{is_white, are_pieces, CutsUpTo, Reaches, HasFault, IsTokenFault, IsOpenBrace}
+use Rattle.tow_language.proofs.Cut.{IsStuck, over, quote, stray, brace, one_cut, one_open, quote_kind, open_kind, stray_kind, kind_at}
+use Rattle.tow_language.proofs.Kept.{quote_fault, stray_fault, brace_fault, one_stop, kinds_apart}
 use Rattle.tow_lex.specs.declared.fault.LexFault.{LexFault}
 use Rattle.tow_lex.specs.declared.fault.LexFault.TheVariants.{UnclosedQuote, UnclosedBrace, StrayByte, TooLong, NoMemory}
 use Rattle.tow_lex.specs.Faults.{lex_fault, comes_before}

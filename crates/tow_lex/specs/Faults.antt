@@ -1,8 +1,8 @@
 -- The kind and place that a refusal names; none for want of memory.
 use Rattle.std.specs.Prelude.{ℕ, Bool, true, nat_lt, Option, Some, None}
-use Rattle.tow_model.specs.declared.kind.Kind.{Kind}
-use Rattle.tow_model.specs.declared.kind.Kind.TheVariants as kinds
-use Rattle.tow_model.specs.Fit.{TextFault}
+use Rattle.tow_language.specs.declared.kind.Kind.{Kind}
+use Rattle.tow_language.specs.declared.kind.Kind.TheVariants as kinds
+use Rattle.tow_language.specs.Fit.{TextFault}
 use Rattle.tow_lex.specs.declared.fault.LexFault.{LexFault}
 use Rattle.tow_lex.specs.declared.fault.LexFault.TheVariants.{UnclosedQuote, UnclosedBrace, StrayByte, TooLong, NoMemory}
 

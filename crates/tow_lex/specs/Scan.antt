@@ -1,7 +1,7 @@
 -- What the steps of the scanner find at a place of the text.
 use Rattle.std.specs.Prelude.{◌≡◌, ℕ, ◌<◌, ◌≤◌, Bool, true, false, List, length, drop, slice_range, ⊤}
-use Rattle.tow_model.specs.declared.token.Token.{Token}
-use Rattle.tow_model.specs.Tokens.{are_pieces, IsToken, IsOpenQuote, IsOpenBrace, IsStray, Reaches}
+use Rattle.tow_language.specs.declared.token.Token.{Token}
+use Rattle.tow_language.specs.Tokens.{are_pieces, IsToken, IsOpenQuote, IsOpenBrace, IsStray, Reaches}
 use Rattle.tow_lex.specs.declared.fault.LexFault.{LexFault}
 use Rattle.tow_lex.specs.declared.fault.LexFault.TheVariants.{UnclosedQuote, UnclosedBrace, StrayByte, TooLong, NoMemory}
 

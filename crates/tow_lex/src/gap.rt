@@ -1,6 +1,6 @@
 ghost use Rattle.std.specs.Prelude.{◌≡◌, ◌<◌, ◌≤◌, false, true, length, slice_index, slice_range};
 ghost use Rattle.std.specs.List.{list_all};
-ghost use Rattle.tow_model.specs.Tokens.{is_white};
+ghost use Rattle.tow_language.specs.Tokens.{is_white};
 
 /// Whether the byte is a space, a TAB or a CR.
 fn is_white(byte: u8) -> bool

@@ -1,13 +1,14 @@
 ghost use Rattle.std.specs.Prelude.{◌≡◌, ◌≤◌, length, IfOk, IfErr, IfSome};
 ghost use Rattle.std.specs.Str.{IsValidUpTo};
-ghost use Rattle.tow_model.specs.Tokens.{Cuts, IsTokenFault};
+ghost use Rattle.tow_language.specs.Tokens.{Cuts, IsTokenFault};
 ghost use Rattle.tow_lex.specs.Faults.{lex_fault, comes_before};
 
 use crate::fault::LexFault;
 use crate::scan::scan;
 use std::alloc::Global;
 use std::str;
-use tow_model::{List, Token};
+use tow_language::Token;
+use tow_model::List;
 
 /// The tokens of a text, in their order.
 pub type Tokens = List<Token>;

@@ -15,4 +15,4 @@ mod word;
 
 pub use fault::LexFault;
 pub use lexer::{Tokens, tokens};
-pub use tow_model::{Token, TokenKind};
+pub use tow_language::{Token, TokenKind};

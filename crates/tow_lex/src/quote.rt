@@ -1,5 +1,5 @@
 ghost use Rattle.std.specs.Prelude.{◌≡◌, ◌<◌, ◌≤◌, true, length, slice_index, slice_range, drop, IfSome, OnSome, IfNone};
-ghost use Rattle.tow_model.specs.Tokens.{is_quote, IsQuoted, IsOpenQuote};
+ghost use Rattle.tow_language.specs.Tokens.{is_quote, IsQuoted, IsOpenQuote};
 
 /// The end of the quoted text that begins at `from`, behind its closing quote.
 pub fn quote_end(text: &[u8], from: usize) -> Option<usize>

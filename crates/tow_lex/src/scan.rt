@@ -1,12 +1,13 @@
 ghost use Rattle.std.specs.Prelude.{[], IfOk, IfErr};
-ghost use Rattle.tow_model.specs.Tokens.{CutsUpTo};
+ghost use Rattle.tow_language.specs.Tokens.{CutsUpTo};
 ghost use Rattle.tow_lex.specs.Scan.{Stops};
 
 use crate::fault::LexFault;
 use crate::gap::gap_end;
 use crate::token::next_token;
 use std::alloc::Global;
-use tow_model::{List, Token};
+use tow_language::Token;
+use tow_model::List;
 
 /// The tokens of the bytes, or the fault of the place up to which there are tokens.
 pub fn scan(alloc: Global, text: &[u8]) -> Result<List<Token>, LexFault>

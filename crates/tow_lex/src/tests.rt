@@ -1,6 +1,6 @@
 use crate::{LexFault, Token, TokenKind, tokens};
 use std::alloc::{AllocError, Global};
-use tow_model::TokenKind::{
+use tow_language::TokenKind::{
     Arrow, CloseBrace, CloseRound, CloseSquare, Comma, Equals, Newline, OpenBrace, OpenRound,
     OpenSquare, Quoted, Semi, Word,
 };

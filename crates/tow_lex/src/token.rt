@@ -1,12 +1,12 @@
 ghost use Rattle.std.specs.Prelude.{◌≡◌, ◌+◌, ◌<◌, ◌==◌, ℕ, drop, List, [], ◌∷◌, false, true, length, codes, slice_index, IfOk, IfErr, IfSome, IfNone};
 ghost use Rattle.std.specs.List.{list_any};
-ghost use Rattle.tow_model.specs.Tokens.{is_white, is_quote, begins_piece, IsToken};
+ghost use Rattle.tow_language.specs.Tokens.{is_white, is_quote, begins_piece, IsToken};
 ghost use Rattle.tow_lex.specs.Scan.{IsNext, StopsHere};
 
 use crate::fault::LexFault;
 use crate::quote::quote_end;
 use crate::word::{piece_at, word_end};
-use tow_model::{Token, TokenKind};
+use tow_language::{Token, TokenKind};
 
 /// The token that begins at a place where no white space stands.
 pub fn next_token(text: &[u8], from: usize) -> Result<Token, LexFault>

@@ -1,5 +1,5 @@
 ghost use Rattle.std.specs.Prelude.{◌≡◌, ◌+◌, ◌<◌, ◌≤◌, true, false, length, slice_index, slice_range, drop, IfOk, IfErr, IfSome, IfNone};
-ghost use Rattle.tow_model.specs.Tokens.{next_is, begins_piece, opens_brace, are_pieces, no_piece, is_open, IsOpenBrace};
+ghost use Rattle.tow_language.specs.Tokens.{next_is, begins_piece, opens_brace, are_pieces, no_piece, is_open, IsOpenBrace};
 ghost use Rattle.tow_lex.specs.Scan.{Leads};
 
 /// Whether the byte stands at the place.

@@ -6,7 +6,7 @@ use Rattle.regex_syntax.specs.Grammar.{read, Names}
 use Rattle.regex_syntax.specs.Brackets.{Nested}
 use Rattle.regex_syntax.specs.declared.error.ErrorKind.{ErrorKind}
 use Rattle.regex_syntax.specs.declared.error.ErrorKind.TheVariants.{OutOfMemory, NestLimitExceeded}
-use Rattle.tow_model.specs.Patterns.{over_bytes, IsGoodPattern}
+use Rattle.tow_pattern.specs.Patterns.{over_bytes, IsGoodPattern}
 
 -- what is read, and is not nested too deep, is not refused for its text
 clash : {A : Type 0} (depth : A → ℕ) (found : Option A) (kind : ErrorKind) (limit : ℕ) (P Q R : A → Type 0) →

@@ -2,7 +2,7 @@
 use Rattle.std.specs.Prelude.{◌≡◌, ℕ, List}
 use Rattle.regex.specs.Bytes.{regex_source, regex_config, IsReadFromSource}
 use Rattle.regex.specs.declared.bytes.regex.Regex.{Regex}
-use Rattle.tow_model.specs.Patterns.{over_bytes}
+use Rattle.tow_pattern.specs.Patterns.{over_bytes}
 use Rattle.tow_link.specs.declared.maker.Made.{Made}
 use Rattle.tow_link.specs.declared.maker.Made.TheVariants.{Built, Syntax, Large, NoMemory}
 

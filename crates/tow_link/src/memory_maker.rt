@@ -1,5 +1,5 @@
 ghost use Rattle.std.specs.Prelude.{◌≡◌, ◌≢◌, ℕ, ◌≤◌, IsNone, IsSome, List, ⊤};
-ghost use Rattle.tow_model.specs.Patterns.{IsGoodPattern};
+ghost use Rattle.tow_pattern.specs.Patterns.{IsGoodPattern};
 ghost use Rattle.tow_link.specs.Counts.{count_at};
 ghost use Rattle.tow_link.specs.Data.{Rose};
 ghost use Rattle.tow_link.specs.Entries.{entry_at};

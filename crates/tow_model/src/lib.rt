@@ -1,6 +1,5 @@
-//! The data that the server's crates speak of, and, in specs/, the definitions that their contracts cite: the handlers
-//! language and its trees, requests and their heads, records and what a text makes of them, answers, and what a
-//! connection writes.
+//! The data that the server's crates speak of, and, in specs/, the small vocabulary of their definitions: texts, lists,
+//! fields, paths and dates.
 #![tactic(auto)]
 
 pub mod account;
@@ -9,7 +8,6 @@ pub mod answer;
 pub mod attribute;
 pub mod bytes;
 pub mod content;
-pub mod kind;
 pub mod laws;
 pub mod list;
 pub mod no_memory;
@@ -18,8 +16,6 @@ pub mod predicate;
 pub mod record;
 pub mod request;
 pub mod statement;
-pub mod table;
-pub mod token;
 pub mod trimming;
 
 pub use account::{Account, Bound, Call, End, Line, Role, Verdict, What};
@@ -28,7 +24,6 @@ pub use answer::Answer;
 pub use attribute::{Attribute, Piece, Template};
 pub use bytes::Bytes;
 pub use content::Content;
-pub use kind::Kind;
 pub use list::List;
 pub use no_memory::NoMemory;
 pub use page::Page;
@@ -36,6 +31,4 @@ pub use predicate::{Predicate, Segment, Test};
 pub use record::{Choice, Listener, Record};
 pub use request::{Field, Framing, Request, Version};
 pub use statement::{Statement, Tree};
-pub use table::{Given, Handler, Shape, TestName};
-pub use token::{Token, TokenKind};
 pub use trimming::trimmed;

@@ -1,8 +1,8 @@
 -- Where the tokens of a text stand in it.
 use Rattle.std.specs.Prelude.{◌≡◌, ℕ, zero, suc, ◌+◌, ◌<◌, ◌≤◌, List, [], ◌∷◌, ◌++◌, length, get_or}
 use Rattle.std.proofs.Common.{◌∙◌, ap, arith, length-append}
-use Rattle.tow_model.specs.declared.token.Token.{Token}
-use Rattle.tow_model.specs.Tokens.{CutsUpTo, Cuts}
+use Rattle.tow_language.specs.declared.token.Token.{Token}
+use Rattle.tow_language.specs.Tokens.{CutsUpTo, Cuts}
 
 abbrev Stands : ℕ → Token → Type 0
 Stands n t = (t.from ≤ t.to) × (t.to ≤ n)

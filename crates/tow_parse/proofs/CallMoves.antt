@@ -2,8 +2,8 @@
 use Rattle.std.specs.Prelude.{◌≡◌, ℕ, Bool, true, false, Some, None, List, [], ◌∷◌}
 use Rattle.std.proofs.Common.{refl, subst}
 use mathlib.Core.Logic.{inl, inr}
-use Rattle.tow_model.specs.Symbols.{Symbol}
-use Rattle.tow_model.specs.Grammar.{TargetThen, is_block}
+use Rattle.tow_language.specs.Symbols.{Symbol}
+use Rattle.tow_language.specs.Grammar.{TargetThen, is_block}
 use Rattle.tow_fit.specs.declared.call.WrittenText.{WrittenText}
 use Rattle.tow_fit.specs.declared.fault.ParseFault.{ParseFault}
 use Rattle.tow_fit.specs.declared.fault.ParseFault.TheVariants.{Unexpected, TooDeep, UnknownName, BadParameter, BadAttribute, BadTarget, TooManyLimits, NoMemory}

@@ -2,10 +2,10 @@
 use Rattle.std.specs.Prelude.{◌≡◌, ◌↔◌, ◌⊎◌, Bool, true, false, Option, Some, None, List, [], ◌∷◌}
 use Rattle.std.proofs.Common.{refl, sym, ◌∙◌, ap}
 use mathlib.Core.Logic.{inl, inr}
-use Rattle.tow_model.specs.declared.token.TokenKind.TheVariants as kinds
-use Rattle.tow_model.specs.Raw.{RawPredicate, alone, or_more, single, and_more, RawFactor, test, negated, grouped, RawTarget, handler, restart, done, block, RawStatement, act, when, when_else, RawList, none, more}
-use Rattle.tow_model.specs.Symbols.{Sign, mark, Symbol}
-use Rattle.tow_model.specs.Grammar.{Rest, FactorThen, PredicateThen, SeparatorThen, SeparatorsThen, ends_in_brace, TargetThen, StatementThen, ListThen}
+use Rattle.tow_language.specs.declared.token.TokenKind.TheVariants as kinds
+use Rattle.tow_language.specs.Raw.{RawPredicate, alone, or_more, single, and_more, RawFactor, test, negated, grouped, RawTarget, handler, restart, done, block, RawStatement, act, when, when_else, RawList, none, more}
+use Rattle.tow_language.specs.Symbols.{Sign, mark, Symbol}
+use Rattle.tow_language.specs.Grammar.{Rest, FactorThen, PredicateThen, SeparatorThen, SeparatorsThen, ends_in_brace, TargetThen, StatementThen, ListThen}
 use Rattle.tow_parse.specs.declared.goal.Goal.{Goal}
 use Rattle.tow_parse.specs.declared.goal.Goal.TheVariants.{Statements, Joined, Else, Told}
 use Rattle.tow_parse.specs.declared.goal.Joint.TheVariants as joints

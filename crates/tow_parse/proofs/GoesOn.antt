@@ -2,11 +2,11 @@
 use Rattle.std.specs.Prelude.{◌≡◌, ℕ, Bool, true, false, None, List, [], ◌∷◌, codes}
 use Rattle.std.proofs.Common.{refl}
 use mathlib.Core.Logic.{inl}
-use Rattle.tow_model.specs.declared.token.TokenKind.{TokenKind}
-use Rattle.tow_model.specs.declared.token.TokenKind.TheVariants.{Newline, Equals, CloseRound, CloseSquare, CloseBrace, Arrow}
-use Rattle.tow_model.specs.Raw.{Written, one, unnamed, RawCall, test, done, act, none}
-use Rattle.tow_model.specs.Symbols.{Sign, word, mark, Symbol}
-use Rattle.tow_model.specs.Grammar.{Rest, Mark, TextThen, CallThen, TargetThen, SeparatorsThen}
+use Rattle.tow_language.specs.declared.token.TokenKind.{TokenKind}
+use Rattle.tow_language.specs.declared.token.TokenKind.TheVariants.{Newline, Equals, CloseRound, CloseSquare, CloseBrace, Arrow}
+use Rattle.tow_language.specs.Raw.{Written, one, unnamed, RawCall, test, done, act, none}
+use Rattle.tow_language.specs.Symbols.{Sign, word, mark, Symbol}
+use Rattle.tow_language.specs.Grammar.{Rest, Mark, TextThen, CallThen, TargetThen, SeparatorsThen}
 use Rattle.tow_fit.specs.declared.call.WrittenParameters.TheVariants as written
 use Rattle.tow_parse.specs.declared.goal.Goal.{Goal}
 use Rattle.tow_parse.specs.declared.goal.Goal.TheVariants.{Statements, Statement, Factor, Joined, Target, Else, Told, Called, Named, Parameters}

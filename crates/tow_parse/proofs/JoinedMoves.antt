@@ -1,8 +1,8 @@
 -- The tokens behind a factor.
 use Rattle.std.specs.Prelude.{◌≡◌, ℕ, Bool, true, false, Some, None, List, [], ◌∷◌, codes}
 use Rattle.std.proofs.Common.{sym, ◌∙◌, ap, append_assoc}
-use Rattle.tow_model.specs.Raw.{alone, or_more, single, and_more}
-use Rattle.tow_model.specs.Symbols.{Sign, word, mark, Symbol}
+use Rattle.tow_language.specs.Raw.{alone, or_more, single, and_more}
+use Rattle.tow_language.specs.Symbols.{Sign, word, mark, Symbol}
 use Rattle.tow_parse.specs.declared.goal.Goal.{Goal}
 use Rattle.tow_parse.specs.declared.goal.Goal.TheVariants.{Factor, Joined, Told}
 use Rattle.tow_parse.specs.declared.goal.Joint.TheVariants as joints

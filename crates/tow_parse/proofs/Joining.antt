@@ -1,8 +1,8 @@
 -- The Newlines between brackets.
 use Rattle.std.specs.Prelude.{◌≡◌, ℕ, zero, suc, ◌<◌, List, [], ◌∷◌}
 use Rattle.std.proofs.Common.{refl, sym, ◌∙◌, ap, subst, arith}
-use Rattle.tow_model.specs.declared.token.TokenKind.TheVariants as kinds
-use Rattle.tow_model.specs.Symbols.{Sign, word, quoted, mark, Symbol, open_after, joined}
+use Rattle.tow_language.specs.declared.token.TokenKind.TheVariants as kinds
+use Rattle.tow_language.specs.Symbols.{Sign, word, quoted, mark, Symbol, open_after, joined}
 use Rattle.tow_parse.specs.declared.look.Look.{Look}
 use Rattle.tow_parse.specs.declared.look.Look.TheVariants as looks
 use Rattle.tow_parse.specs.Looks.{Shows, opened}

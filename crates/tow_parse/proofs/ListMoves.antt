@@ -2,10 +2,10 @@
 use Rattle.std.specs.Prelude.{◌≡◌, ◌⊎◌, ℕ, ◌-◌, ◌<◌, Bool, true, false, Some, None, List, [], ◌∷◌}
 use Rattle.std.proofs.Common.{refl, sym, subst, arith, append_assoc}
 use mathlib.Core.Logic.{inl, inr}
-use Rattle.tow_model.specs.Raw.{done, act, RawList, none, more}
-use Rattle.tow_model.specs.Symbols.{Symbol}
-use Rattle.tow_model.specs.Grammar.{Rest, SeparatorsThen, ends_in_brace, StatementThen}
-use Rattle.tow_model.specs.Levels.{StatementWithin}
+use Rattle.tow_language.specs.Raw.{done, act, RawList, none, more}
+use Rattle.tow_language.specs.Symbols.{Symbol}
+use Rattle.tow_language.specs.Grammar.{Rest, SeparatorsThen, ends_in_brace, StatementThen}
+use Rattle.tow_language.specs.Levels.{StatementWithin}
 use Rattle.tow_parse.specs.declared.goal.Goal.{Goal}
 use Rattle.tow_parse.specs.declared.goal.Goal.TheVariants.{Statements, Statement, Else, Told}
 use Rattle.tow_parse.specs.declared.goal.Joint.TheVariants as joints

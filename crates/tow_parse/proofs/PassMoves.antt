@@ -2,9 +2,9 @@
 use Rattle.std.specs.Prelude.{◌≡◌, ℕ, Bool, true, false, Some, None, List, [], ◌∷◌, ◌++◌, codes}
 use Rattle.std.proofs.Common.{refl, sym, ◌∙◌, ap, append_assoc}
 use mathlib.Core.Logic.{inl, inr}
-use Rattle.tow_model.specs.Raw.{RawParameters, unnamed, RawStatement}
-use Rattle.tow_model.specs.Symbols.{Symbol}
-use Rattle.tow_model.specs.Grammar.{Rest, Keyword, SeparatorsThen, BracketsThen, TargetThen, is_block}
+use Rattle.tow_language.specs.Raw.{RawParameters, unnamed, RawStatement}
+use Rattle.tow_language.specs.Symbols.{Symbol}
+use Rattle.tow_language.specs.Grammar.{Rest, Keyword, SeparatorsThen, BracketsThen, TargetThen, is_block}
 use Rattle.tow_fit.specs.declared.call.Call.{Call}
 use Rattle.tow_fit.specs.declared.call.WrittenText.{WrittenText}
 use Rattle.tow_parse.specs.declared.goal.Goal.{Goal}

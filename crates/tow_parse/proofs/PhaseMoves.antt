@@ -3,11 +3,11 @@ use Rattle.std.specs.Prelude.{◌≡◌, ℕ, Bool, true, false, Result, Ok, Err
 use Rattle.std.proofs.Common.{refl, sym, ◌∙◌, ap, ap₂, subst, append_assoc}
 use Rattle.std.proofs.lemmas.List.{map-append, append-nil}
 use mathlib.Core.Logic.{inl, inr}
-use Rattle.tow_model.specs.declared.token.TokenKind.{TokenKind}
-use Rattle.tow_model.specs.declared.token.TokenKind.TheVariants as kinds
-use Rattle.tow_model.specs.Raw.{Written, RawValue, one, array, RawParameters, unnamed, named}
-use Rattle.tow_model.specs.Symbols.{Sign, word, quoted, mark, Symbol}
-use Rattle.tow_model.specs.Grammar.{Rest, Mark, TextThen, Commas, ValueThen, PairThen, ParametersThen}
+use Rattle.tow_language.specs.declared.token.TokenKind.{TokenKind}
+use Rattle.tow_language.specs.declared.token.TokenKind.TheVariants as kinds
+use Rattle.tow_language.specs.Raw.{Written, RawValue, one, array, RawParameters, unnamed, named}
+use Rattle.tow_language.specs.Symbols.{Sign, word, quoted, mark, Symbol}
+use Rattle.tow_language.specs.Grammar.{Rest, Mark, TextThen, Commas, ValueThen, PairThen, ParametersThen}
 use Rattle.tow_fit.specs.declared.call.WrittenText.{WrittenText}
 use Rattle.tow_fit.specs.declared.call.WrittenValue.{WrittenValue}
 use Rattle.tow_fit.specs.declared.call.WrittenValue.TheVariants as values

@@ -7,8 +7,8 @@ use Rattle.tow_model.specs.declared.predicate.Predicate.{Predicate}
 use Rattle.tow_model.specs.declared.predicate.Predicate.TheVariants.{Is, Not, And, Or}
 use Rattle.tow_model.specs.declared.statement.Statement.{Statement}
 use Rattle.tow_model.specs.declared.statement.Statement.TheVariants.{When, Act, Block}
-use Rattle.tow_model.specs.Raw.{RawPredicate, alone, or_more, RawConjunction, single, and_more, RawFactor, test, negated, grouped, RawTarget, handler, restart, done, block, RawStatement, act, when, when_else, RawList, none, more}
-use Rattle.tow_model.specs.Fit.{TextFault, ◌>>=◌, Counts, Fitted, fit_test, fit_action, fit_predicate, fit_or, fit_conjunction, fit_and, fit_factor, fit_target, fit_statement, fit_list, fit}
+use Rattle.tow_language.specs.Raw.{RawPredicate, alone, or_more, RawConjunction, single, and_more, RawFactor, test, negated, grouped, RawTarget, handler, restart, done, block, RawStatement, act, when, when_else, RawList, none, more}
+use Rattle.tow_language.specs.Fit.{TextFault, ◌>>=◌, Counts, Fitted, fit_test, fit_action, fit_predicate, fit_or, fit_conjunction, fit_and, fit_factor, fit_target, fit_statement, fit_list, fit}
 use Rattle.tow_parse.specs.Parts.{RawPart, a_not, an_and, an_or, a_close, a_when, a_when_else, an_end, predicate_parts, or_parts, conjunction_parts, and_parts, factor_parts, target_parts, statement_parts, list_parts, parts_of}
 use Rattle.tow_fit.specs.declared.fault.ParseFault.{ParseFault}
 use Rattle.tow_fit.specs.Faults.{parse_fault, Fails}

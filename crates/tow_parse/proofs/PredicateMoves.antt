@@ -1,11 +1,11 @@
 -- The tokens of a predicate.
 use Rattle.std.specs.Prelude.{◌≡◌, ℕ, ◌+◌, ◌-◌, ◌<◌, Bool, true, false, Some, None, List, [], ◌∷◌, ◌++◌}
 use Rattle.std.proofs.Common.{refl, sym, ◌∙◌, ap, subst, ap₂, arith, append_assoc}
-use Rattle.tow_model.specs.declared.token.TokenKind.TheVariants as kinds
-use Rattle.tow_model.specs.Raw.{Written, RawCall, RawPredicate, alone, or_more, single, and_more, test, negated, grouped}
-use Rattle.tow_model.specs.Symbols.{word, Symbol}
-use Rattle.tow_model.specs.Grammar.{Mark, PredicateThen, is_reserved}
-use Rattle.tow_model.specs.Levels.{FactorWithin, PredicateWithin, ConjunctionWithin}
+use Rattle.tow_language.specs.declared.token.TokenKind.TheVariants as kinds
+use Rattle.tow_language.specs.Raw.{Written, RawCall, RawPredicate, alone, or_more, single, and_more, test, negated, grouped}
+use Rattle.tow_language.specs.Symbols.{word, Symbol}
+use Rattle.tow_language.specs.Grammar.{Mark, PredicateThen, is_reserved}
+use Rattle.tow_language.specs.Levels.{FactorWithin, PredicateWithin, ConjunctionWithin}
 use Rattle.tow_fit.specs.declared.call.WrittenText.{WrittenText}
 use Rattle.tow_parse.specs.declared.goal.Goal.{Goal}
 use Rattle.tow_parse.specs.declared.goal.Goal.TheVariants.{Factor, Joined, Told, Named}

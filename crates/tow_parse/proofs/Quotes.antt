@@ -1,8 +1,8 @@
 -- The bytes between two quotes.
 use Rattle.std.specs.Prelude.{◌≡◌, ℕ, ◌+◌, ◌-◌, ◌<◌, ◌≤◌, ◌==◌, ◌&&◌, Bool, true, false, List, [], ◌∷◌, ◌++◌, length, take, get_or, slice_range, if◌then◌else◌}
 use Rattle.std.proofs.Common.{refl, sym, ◌∙◌, ap, arith, append_assoc}
-use Rattle.tow_model.specs.Symbols.{inner, unescaped}
-use Rattle.tow_model.specs.Tokens.{next_is}
+use Rattle.tow_language.specs.Symbols.{inner, unescaped}
+use Rattle.tow_language.specs.Tokens.{next_is}
 use Rattle.tow_model.proofs.Spans.{span_step}
 
 pub inner_short : (s : List ℕ) → length s < 2 → inner s ≡ []

@@ -4,12 +4,12 @@ use Rattle.std.proofs.Common.{refl, sym, ◌∙◌, ap, subst, arith, append_ass
 use Rattle.std.proofs.lemmas.List.{append-nil, take_more, take_all, take-map, drop-map, map-append, length-map}
 use Rattle.std.proofs.Math.Seq.{drop-cons, drop-length}
 use mathlib.Core.Logic.{inl, inr}
-use Rattle.tow_model.specs.declared.token.Token.{Token}
-use Rattle.tow_model.specs.Raw.{RawList}
-use Rattle.tow_model.specs.Symbols.{Symbol, joined, symbol_of, symbols_of}
-use Rattle.tow_model.specs.Grammar.{AtEnd}
-use Rattle.tow_model.specs.Tokens.{Cuts}
-use Rattle.tow_model.specs.Syntax.{IsList, Begins, IsSyntaxFault, place_at}
+use Rattle.tow_language.specs.declared.token.Token.{Token}
+use Rattle.tow_language.specs.Raw.{RawList}
+use Rattle.tow_language.specs.Symbols.{Symbol, joined, symbol_of, symbols_of}
+use Rattle.tow_language.specs.Grammar.{AtEnd}
+use Rattle.tow_language.specs.Tokens.{Cuts}
+use Rattle.tow_language.specs.Syntax.{IsList, Begins, IsSyntaxFault, place_at}
 use Rattle.tow_fit.specs.declared.fault.ParseFault.{ParseFault}
 use Rattle.tow_fit.specs.declared.fault.ParseFault.TheVariants.{Unexpected, TooDeep, UnknownName, BadParameter, BadAttribute, BadTarget, TooManyLimits, NoMemory}
 use Rattle.tow_parse.specs.declared.goal.Goal.TheVariants.{Statements}

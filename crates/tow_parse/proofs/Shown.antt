@@ -1,9 +1,9 @@
 -- A sign shows one look alone.
 use Rattle.std.specs.Prelude.{◌≡◌, ℕ, Bool, true, false, ◌||◌, List, codes, bytes_eq, if◌then◌else◌}
 use Rattle.std.proofs.Common.{refl, sym, ◌∙◌, ap}
-use Rattle.tow_model.specs.declared.token.TokenKind.TheVariants as kinds
-use Rattle.tow_model.specs.Symbols.{Sign, word, quoted, mark}
-use Rattle.tow_model.specs.Grammar.{is_reserved}
+use Rattle.tow_language.specs.declared.token.TokenKind.TheVariants as kinds
+use Rattle.tow_language.specs.Symbols.{Sign, word, quoted, mark}
+use Rattle.tow_language.specs.Grammar.{is_reserved}
 use Rattle.tow_parse.specs.declared.look.Look.{Look}
 use Rattle.tow_parse.specs.declared.look.Look.TheVariants.{And, Or, Not, Else, Restart, Done, Name, Quoted, Newline, Semi, Comma, Equals, OpenRound, CloseRound, OpenSquare, CloseSquare, OpenBrace, CloseBrace, Arrow, End}
 use Rattle.tow_parse.specs.Looks.{Shows}

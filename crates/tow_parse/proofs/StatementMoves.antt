@@ -3,11 +3,11 @@ use Rattle.std.specs.Prelude.{◌≡◌, ◌⊎◌, ℕ, ◌+◌, Bool, true, fa
 use Rattle.std.proofs.Common.{refl, sym, ◌∙◌, ap, subst, append_assoc}
 use Rattle.std.proofs.lemmas.List.{append-nil}
 use mathlib.Core.Logic.{inl, inr}
-use Rattle.tow_model.specs.declared.token.TokenKind.TheVariants as kinds
-use Rattle.tow_model.specs.Raw.{Written, RawCall, RawPredicate, alone, or_more, single, and_more, RawFactor, test, negated, grouped, RawTarget, handler, restart, done, block, RawStatement, act, when, when_else}
-use Rattle.tow_model.specs.Symbols.{word, mark, Symbol}
-use Rattle.tow_model.specs.Grammar.{Rest, FactorThen, PredicateThen, is_reserved, is_block, ends_in_brace, StatementThen, TargetThen}
-use Rattle.tow_model.specs.Levels.{PredicateWithin, FactorWithin}
+use Rattle.tow_language.specs.declared.token.TokenKind.TheVariants as kinds
+use Rattle.tow_language.specs.Raw.{Written, RawCall, RawPredicate, alone, or_more, single, and_more, RawFactor, test, negated, grouped, RawTarget, handler, restart, done, block, RawStatement, act, when, when_else}
+use Rattle.tow_language.specs.Symbols.{word, mark, Symbol}
+use Rattle.tow_language.specs.Grammar.{Rest, FactorThen, PredicateThen, is_reserved, is_block, ends_in_brace, StatementThen, TargetThen}
+use Rattle.tow_language.specs.Levels.{PredicateWithin, FactorWithin}
 use Rattle.tow_fit.specs.declared.call.WrittenText.{WrittenText}
 use Rattle.tow_parse.specs.declared.goal.Goal.{Goal}
 use Rattle.tow_parse.specs.declared.goal.Goal.TheVariants.{Statement, Factor, Joined, Target, Else, Named}

@@ -3,12 +3,12 @@ use Rattle.std.specs.Prelude.{◌≡◌, ◌↔◌, ℕ, ◌<◌, Bool, true, fa
 use Rattle.std.proofs.Common.{refl, sym, ◌∙◌, ap, subst}
 use Rattle.std.proofs.lemmas.List.{append-nil}
 use mathlib.Core.Logic.{inl, inr}
-use Rattle.tow_model.specs.declared.token.TokenKind.{TokenKind}
-use Rattle.tow_model.specs.declared.token.TokenKind.TheVariants as kinds
-use Rattle.tow_model.specs.declared.token.TokenKind.TheVariants.{Comma}
-use Rattle.tow_model.specs.Raw.{Written, RawValue, one, array, RawParameters, unnamed, named, RawPredicate, alone, or_more, single, and_more, RawFactor, test, negated, grouped, RawTarget, handler, restart, done, block, RawStatement, act, when, when_else, RawList, none, more}
-use Rattle.tow_model.specs.Symbols.{Symbol, joined}
-use Rattle.tow_model.specs.Grammar.{Rest, Mark, Commas, TextThen, ValueThen, ParametersThen, FactorThen, PredicateThen, TargetThen, StatementThen, ends_in_brace}
+use Rattle.tow_language.specs.declared.token.TokenKind.{TokenKind}
+use Rattle.tow_language.specs.declared.token.TokenKind.TheVariants as kinds
+use Rattle.tow_language.specs.declared.token.TokenKind.TheVariants.{Comma}
+use Rattle.tow_language.specs.Raw.{Written, RawValue, one, array, RawParameters, unnamed, named, RawPredicate, alone, or_more, single, and_more, RawFactor, test, negated, grouped, RawTarget, handler, restart, done, block, RawStatement, act, when, when_else, RawList, none, more}
+use Rattle.tow_language.specs.Symbols.{Symbol, joined}
+use Rattle.tow_language.specs.Grammar.{Rest, Mark, Commas, TextThen, ValueThen, ParametersThen, FactorThen, PredicateThen, TargetThen, StatementThen, ends_in_brace}
 use Rattle.tow_fit.specs.declared.call.WrittenParameters.TheVariants as written
 use Rattle.tow_fit.specs.declared.fault.ParseFault.{ParseFault}
 use Rattle.tow_fit.specs.declared.fault.ParseFault.TheVariants.{Unexpected, TooDeep, UnknownName, BadParameter, BadAttribute, BadTarget, TooManyLimits, NoMemory}

@@ -1,11 +1,11 @@
 -- The tokens of a target.
 use Rattle.std.specs.Prelude.{◌≡◌, ℕ, ◌-◌, ◌<◌, Bool, true, false, List, [], ◌∷◌}
 use Rattle.std.proofs.Common.{refl, sym, ◌∙◌, ap, ap₂, subst, arith}
-use Rattle.tow_model.specs.declared.token.TokenKind.TheVariants as kinds
-use Rattle.tow_model.specs.Raw.{Written, RawCall, RawTarget, handler, restart, done, block, RawList, none, more}
-use Rattle.tow_model.specs.Symbols.{Sign, word, Symbol}
-use Rattle.tow_model.specs.Grammar.{Rest, Mark, ListThen, TargetThen, is_reserved}
-use Rattle.tow_model.specs.Levels.{ListWithin}
+use Rattle.tow_language.specs.declared.token.TokenKind.TheVariants as kinds
+use Rattle.tow_language.specs.Raw.{Written, RawCall, RawTarget, handler, restart, done, block, RawList, none, more}
+use Rattle.tow_language.specs.Symbols.{Sign, word, Symbol}
+use Rattle.tow_language.specs.Grammar.{Rest, Mark, ListThen, TargetThen, is_reserved}
+use Rattle.tow_language.specs.Levels.{ListWithin}
 use Rattle.tow_fit.specs.declared.call.WrittenText.{WrittenText}
 use Rattle.tow_parse.specs.declared.goal.Goal.{Goal}
 use Rattle.tow_parse.specs.declared.goal.Goal.TheVariants.{Statements, Target, Named}

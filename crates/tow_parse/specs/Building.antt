@@ -5,7 +5,7 @@ use Rattle.tow_model.specs.declared.predicate.Predicate.{Predicate}
 use Rattle.tow_model.specs.declared.predicate.Predicate.TheVariants.{Is, Not, And, Or}
 use Rattle.tow_model.specs.declared.statement.Statement.{Statement}
 use Rattle.tow_model.specs.declared.statement.Statement.TheVariants.{When, Act, Block}
-use Rattle.tow_model.specs.Fit.{TextFault, Counts, no_counts, Fitted, fit_test, fit_action}
+use Rattle.tow_language.specs.Fit.{TextFault, Counts, no_counts, Fitted, fit_test, fit_action}
 use Rattle.tow_fit.specs.declared.fault.ParseFault.{ParseFault}
 use Rattle.tow_fit.specs.Faults.{parse_fault}
 use Rattle.tow_parse.specs.Parts.{RawPart, a_test, a_not, an_and, an_or, a_handler, a_restart, a_done, an_open, a_close, a_when, a_when_else, an_end}

@@ -1,11 +1,11 @@
 -- What may follow where a reader has some goals, and the parts that this adds.
 use Rattle.std.specs.Prelude.{◌≡◌, ℕ, ◌+◌, ◌-◌, ◌<◌, Bool, true, false, Option, Some, None, List, [], ◌∷◌, ◌++◌, codes, ⊤}
-use Rattle.tow_model.specs.declared.token.TokenKind.{TokenKind}
-use Rattle.tow_model.specs.declared.token.TokenKind.TheVariants.{CloseRound, CloseSquare, CloseBrace, Arrow}
-use Rattle.tow_model.specs.Raw.{RawParameters, RawCall, RawPredicate, RawConjunction, RawFactor, RawTarget, RawStatement, RawList, none, more}
-use Rattle.tow_model.specs.Symbols.{Symbol}
-use Rattle.tow_model.specs.Grammar.{Rest, AtEnd, Mark, Keyword, BracketsThen, PredicateThen, ConjunctionThen, FactorThen, SeparatorsThen, MaybeArrow, is_block, ends_in_brace, Between, TargetThen, StatementThen, ListThen}
-use Rattle.tow_model.specs.Levels.{PredicateWithin, ConjunctionWithin, FactorWithin, TargetWithin, StatementWithin, ListWithin}
+use Rattle.tow_language.specs.declared.token.TokenKind.{TokenKind}
+use Rattle.tow_language.specs.declared.token.TokenKind.TheVariants.{CloseRound, CloseSquare, CloseBrace, Arrow}
+use Rattle.tow_language.specs.Raw.{RawParameters, RawCall, RawPredicate, RawConjunction, RawFactor, RawTarget, RawStatement, RawList, none, more}
+use Rattle.tow_language.specs.Symbols.{Symbol}
+use Rattle.tow_language.specs.Grammar.{Rest, AtEnd, Mark, Keyword, BracketsThen, PredicateThen, ConjunctionThen, FactorThen, SeparatorsThen, MaybeArrow, is_block, ends_in_brace, Between, TargetThen, StatementThen, ListThen}
+use Rattle.tow_language.specs.Levels.{PredicateWithin, ConjunctionWithin, FactorWithin, TargetWithin, StatementWithin, ListWithin}
 use Rattle.tow_parse.specs.declared.goal.Goal.{Goal}
 use Rattle.tow_parse.specs.declared.goal.Goal.TheVariants.{Statements, Statement, Factor, Joined, Target, Else, Told, Called, Named, Parameters}
 use Rattle.tow_parse.specs.declared.goal.Role.{Role}

@@ -1,8 +1,8 @@
 -- What a token is to the grammar.
 use Rattle.std.specs.Prelude.{◌≡◌, ℕ, ◌+◌, ◌-◌, Bool, true, false, not, List, [], ◌∷◌, codes}
-use Rattle.tow_model.specs.declared.token.TokenKind.TheVariants as kinds
-use Rattle.tow_model.specs.Symbols.{Sign, word, quoted, mark, Symbol}
-use Rattle.tow_model.specs.Grammar.{is_reserved}
+use Rattle.tow_language.specs.declared.token.TokenKind.TheVariants as kinds
+use Rattle.tow_language.specs.Symbols.{Sign, word, quoted, mark, Symbol}
+use Rattle.tow_language.specs.Grammar.{is_reserved}
 use Rattle.tow_parse.specs.declared.look.Look.{Look}
 use Rattle.tow_parse.specs.declared.look.Look.TheVariants.{And, Or, Not, Else, Restart, Done, Name, Quoted, Newline, Semi, Comma, Equals, OpenRound, CloseRound, OpenSquare, CloseSquare, OpenBrace, CloseBrace, Arrow, End}
 

@@ -1,6 +1,6 @@
 -- What a token does to some goals.
 use Rattle.std.specs.Prelude.{◌≡◌, ℕ, Bool, List, ◌∷◌, ◌++◌}
-use Rattle.tow_model.specs.Symbols.{Symbol}
+use Rattle.tow_language.specs.Symbols.{Symbol}
 use Rattle.tow_parse.specs.declared.goal.Goal.{Goal}
 use Rattle.tow_parse.specs.declared.look.Look.{Look}
 use Rattle.tow_parse.specs.Follows.{Fills, AllThen, AllWithin, all_parts}

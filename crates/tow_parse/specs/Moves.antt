@@ -1,7 +1,7 @@
 -- What a token does to a reader.
 use Rattle.std.specs.Prelude.{◌≡◌, ◌↔◌, ℕ, Bool, true, false, not, Option, Some, None, List, [], ◌∷◌, map, ⊤}
-use Rattle.tow_model.specs.declared.token.TokenKind.TheVariants.{Newline}
-use Rattle.tow_model.specs.Symbols.{mark, Symbol}
+use Rattle.tow_language.specs.declared.token.TokenKind.TheVariants.{Newline}
+use Rattle.tow_language.specs.Symbols.{mark, Symbol}
 use Rattle.tow_fit.specs.declared.fault.ParseFault.{ParseFault}
 use Rattle.tow_fit.specs.declared.fault.ParseFault.TheVariants.{Unexpected, TooDeep, NoMemory}
 use Rattle.tow_parse.specs.declared.goal.Goal.{Goal}

@@ -1,6 +1,6 @@
 -- The parts of a derivation: its calls in the order of the text, and what joins things behind them.
 use Rattle.std.specs.Prelude.{List, [], ◌∷◌, ◌++◌}
-use Rattle.tow_model.specs.Raw.{RawCall, RawPredicate, alone, or_more, RawConjunction, single, and_more, RawFactor, test, negated, grouped, RawTarget, handler, restart, done, block, RawStatement, act, when, when_else, RawList, none, more}
+use Rattle.tow_language.specs.Raw.{RawCall, RawPredicate, alone, or_more, RawConjunction, single, and_more, RawFactor, test, negated, grouped, RawTarget, handler, restart, done, block, RawStatement, act, when, when_else, RawList, none, more}
 use Rattle.tow_parse.specs.declared.part.Part.{Part}
 use Rattle.tow_parse.specs.declared.part.Part.TheVariants as parts
 use Rattle.tow_fit.specs.Calls.{call_of}

@@ -1,6 +1,6 @@
 -- What a token does between the brackets of a call.
 use Rattle.std.specs.Prelude.{◌≡◌, ◌⊎◌, ℕ, Bool, false, List, [], ◌∷◌, ◌++◌, ⊤}
-use Rattle.tow_model.specs.Symbols.{word, quoted, Symbol}
+use Rattle.tow_language.specs.Symbols.{word, quoted, Symbol}
 use Rattle.tow_fit.specs.declared.call.WrittenText.{WrittenText}
 use Rattle.tow_fit.specs.declared.call.WrittenValue.{WrittenValue}
 use Rattle.tow_fit.specs.declared.call.WrittenPair.{WrittenPair}

@@ -1,9 +1,9 @@
 -- What may follow between the brackets of a call, and the parameters that this makes.
 use Rattle.std.specs.Prelude.{◌⊎◌, List, [], ◌∷◌, ◌++◌, map}
 use mathlib.Core.Logic.{inl, inr}
-use Rattle.tow_model.specs.declared.token.TokenKind.TheVariants.{Comma, Equals, CloseBrace}
-use Rattle.tow_model.specs.Raw.{Written, RawValue, one, array, RawParameters, unnamed, named}
-use Rattle.tow_model.specs.Grammar.{Rest, Mark, TextThen, Commas, ValueThen, PairThen, ParametersThen}
+use Rattle.tow_language.specs.declared.token.TokenKind.TheVariants.{Comma, Equals, CloseBrace}
+use Rattle.tow_language.specs.Raw.{Written, RawValue, one, array, RawParameters, unnamed, named}
+use Rattle.tow_language.specs.Grammar.{Rest, Mark, TextThen, Commas, ValueThen, PairThen, ParametersThen}
 use Rattle.tow_fit.specs.declared.call.WrittenParameters.{WrittenParameters}
 use Rattle.tow_fit.specs.declared.call.WrittenParameters.TheVariants as written
 use Rattle.tow_parse.specs.declared.goal.Slot.{Slot}

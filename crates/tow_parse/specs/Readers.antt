@@ -1,8 +1,8 @@
 -- What a reader knows of the text before it.
 use Rattle.std.specs.Prelude.{◌≡◌, ◌↔◌, ℕ, ◌+◌, List, [], ◌∷◌, ◌++◌, map, ⊤}
-use Rattle.tow_model.specs.Raw.{RawList}
-use Rattle.tow_model.specs.Symbols.{Symbol, joined}
-use Rattle.tow_model.specs.Syntax.{IsList}
+use Rattle.tow_language.specs.Raw.{RawList}
+use Rattle.tow_language.specs.Symbols.{Symbol, joined}
+use Rattle.tow_language.specs.Syntax.{IsList}
 use Rattle.tow_fit.specs.declared.fault.ParseFault.{ParseFault}
 use Rattle.tow_fit.specs.declared.fault.ParseFault.TheVariants.{Unexpected, TooDeep, NoMemory}
 use Rattle.tow_parse.specs.declared.part.Part.{Part}

@@ -1,6 +1,6 @@
 ghost use Rattle.std.specs.Prelude.{◌≡◌, map, Ok, IfOk, IfErr};
-ghost use Rattle.tow_model.specs.Raw.{RawList};
-ghost use Rattle.tow_model.specs.Fit as fits;
+ghost use Rattle.tow_language.specs.Raw.{RawList};
+ghost use Rattle.tow_language.specs.Fit as fits;
 ghost use Rattle.tow_fit.specs.Faults.{Fails};
 ghost use Rattle.tow_parse.specs.Parts.{parts_of, raw_part};
 

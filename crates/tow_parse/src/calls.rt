@@ -1,5 +1,5 @@
 ghost use Rattle.std.specs.Prelude.{◌≡◌, ◌≤◌, ◌∷◌, ◌++◌, true, false, length, OnOk, IfErr};
-ghost use Rattle.tow_model.specs.Symbols.{symbol_of};
+ghost use Rattle.tow_language.specs.Symbols.{symbol_of};
 ghost use Rattle.tow_parse.specs.declared.goal.Goal.TheVariants.{Named, Parameters};
 ghost use Rattle.tow_parse.specs.Looks.{Shows, opens};
 ghost use Rattle.tow_fit.specs.declared.fault.ParseFault.TheVariants.{NoMemory};
@@ -13,7 +13,7 @@ use crate::part::Part;
 use crate::phase::{Place, next_place};
 use crate::state::State;
 use tow_fit::{Call, ParseFault, WrittenParameters, WrittenText};
-use tow_model::Token;
+use tow_language::Token;
 
 impl State {
     /// Takes the opening bracket of a call.

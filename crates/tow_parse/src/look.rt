@@ -1,9 +1,9 @@
 ghost use Rattle.std.specs.Prelude.{◌≡◌, ◌+◌, ◌<◌, ◌≤◌, ◌^◌, true, false, length};
-ghost use Rattle.tow_model.specs.Symbols.{symbol_of, word};
+ghost use Rattle.tow_language.specs.Symbols.{symbol_of, word};
 ghost use Rattle.tow_parse.specs.declared.look.Look.TheVariants.{Newline, OpenSquare};
 ghost use Rattle.tow_parse.specs.Looks.{Shows, waits_else, opens, joins, ends, opened, shuts};
 
-use tow_model::{Token, TokenKind};
+use tow_language::{Token, TokenKind};
 
 /// What a token is to the grammar.
 #[derive(Clone, Copy)]

@@ -1,9 +1,9 @@
 ghost use Rattle.std.specs.Prelude.{◌≡◌, Ok, IfOk, IfErr, IfSome};
-ghost use Rattle.tow_model.specs.Raw.{RawList};
-ghost use Rattle.tow_model.specs.Fit as fits;
-ghost use Rattle.tow_model.specs.Fault.{IsFault};
-ghost use Rattle.tow_model.specs.Syntax.{Reads};
-ghost use Rattle.tow_model.specs.Tokens.{Cuts};
+ghost use Rattle.tow_language.specs.Raw.{RawList};
+ghost use Rattle.tow_language.specs.Fit as fits;
+ghost use Rattle.tow_language.specs.Fault.{IsFault};
+ghost use Rattle.tow_language.specs.Syntax.{Reads};
+ghost use Rattle.tow_language.specs.Tokens.{Cuts};
 ghost use Rattle.tow_fit.specs.Faults.{parse_fault};
 
 use crate::assembly::assembled;

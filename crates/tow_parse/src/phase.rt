@@ -1,5 +1,5 @@
 ghost use Rattle.std.specs.Prelude.{◌≡◌, ◌≤◌, [], ◌∷◌, ◌++◌, length, IfOk, IfErr};
-ghost use Rattle.tow_model.specs.Symbols.{symbol_of};
+ghost use Rattle.tow_language.specs.Symbols.{symbol_of};
 ghost use Rattle.tow_fit.specs.declared.call.WrittenValue.TheVariants as values;
 ghost use Rattle.tow_parse.specs.declared.goal.Phase.TheVariants as phases;
 ghost use Rattle.tow_parse.specs.Looks.{Shows};
@@ -11,7 +11,8 @@ use crate::quoted::quoted_at;
 use crate::written::word_at;
 use std::alloc::{AllocError, Global};
 use tow_fit::{ParseFault, WrittenPair, WrittenParameters, WrittenText, WrittenValue};
-use tow_model::{List, Token};
+use tow_language::Token;
+use tow_model::List;
 
 /// What comes behind a token between brackets.
 #[derive(Drop)]

@@ -1,5 +1,5 @@
 ghost use Rattle.std.specs.Prelude.{◌≡◌, ◌≤◌, ◌∷◌, ◌++◌, length, OnOk, IfErr};
-ghost use Rattle.tow_model.specs.Symbols.{symbol_of};
+ghost use Rattle.tow_language.specs.Symbols.{symbol_of};
 ghost use Rattle.tow_parse.specs.declared.goal.Goal.TheVariants.{Factor, Joined};
 ghost use Rattle.tow_parse.specs.Looks.{Shows};
 ghost use Rattle.tow_fit.specs.declared.fault.ParseFault.TheVariants.{NoMemory};
@@ -13,7 +13,7 @@ use crate::part::Part;
 use crate::state::State;
 use crate::written::written_name;
 use tow_fit::ParseFault;
-use tow_model::Token;
+use tow_language::Token;
 
 impl State {
     /// Takes the first token of a factor.

@@ -1,10 +1,11 @@
 ghost use Rattle.std.specs.Prelude.{◌≡◌, ◌+◌, ◌<◌, ◌≤◌, ◌==◌, ◌&&◌, length, IfOk, IfSome, IfNone, List, ℕ, slice_index, slice_range};
-ghost use Rattle.tow_model.specs.Symbols.{symbol_of, inner, quoted, unescaped};
-ghost use Rattle.tow_model.specs.Tokens.{next_is};
+ghost use Rattle.tow_language.specs.Symbols.{symbol_of, inner, quoted, unescaped};
+ghost use Rattle.tow_language.specs.Tokens.{next_is};
 
 use std::alloc::{AllocError, Global};
 use tow_fit::WrittenText;
-use tow_model::{Bytes, Token, TokenKind};
+use tow_language::{Token, TokenKind};
+use tow_model::Bytes;
 
 /// The token as it is written, if it is a Quoted. Takes memory for the bytes that it stands for.
 pub fn quoted_at(

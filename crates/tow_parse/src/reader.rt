@@ -1,8 +1,8 @@
 ghost use Rattle.std.specs.Prelude.{◌≡◌, map, IfOk, IfErr, IfSome};
-ghost use Rattle.tow_model.specs.Raw.{RawList};
-ghost use Rattle.tow_model.specs.Symbols.{symbols_of};
-ghost use Rattle.tow_model.specs.Syntax.{IsList, IsSyntaxFault};
-ghost use Rattle.tow_model.specs.Tokens.{Cuts};
+ghost use Rattle.tow_language.specs.Raw.{RawList};
+ghost use Rattle.tow_language.specs.Symbols.{symbols_of};
+ghost use Rattle.tow_language.specs.Syntax.{IsList, IsSyntaxFault};
+ghost use Rattle.tow_language.specs.Tokens.{Cuts};
 ghost use Rattle.tow_fit.specs.Faults.{parse_fault};
 ghost use Rattle.tow_parse.specs.Parts.{parts_of, raw_part};
 

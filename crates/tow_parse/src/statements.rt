@@ -1,5 +1,5 @@
 ghost use Rattle.std.specs.Prelude.{◌≡◌, ◌≤◌, true, ◌∷◌, length, OnOk, IfErr};
-ghost use Rattle.tow_model.specs.Symbols.{symbol_of};
+ghost use Rattle.tow_language.specs.Symbols.{symbol_of};
 ghost use Rattle.tow_parse.specs.declared.goal.Goal.TheVariants.{Statements, Statement, Target, Else};
 ghost use Rattle.tow_parse.specs.Looks.{Shows, waits_else};
 ghost use Rattle.tow_parse.specs.Moves.{Takes, Stops};
@@ -11,7 +11,7 @@ use crate::part::Part;
 use crate::state::State;
 use crate::written::written_name;
 use tow_fit::ParseFault;
-use tow_model::Token;
+use tow_language::Token;
 
 impl State {
     /// Takes a token between two statements, or before the first or behind the last.

@@ -1,5 +1,5 @@
 ghost use Rattle.std.specs.Prelude.{◌≡◌, ◌+◌, ◌<◌, ◌≤◌, ◌^◌, length, OnOk, IfOk, IfErr, [], ◌∷◌};
-ghost use Rattle.tow_model.specs.Symbols.{symbol_of};
+ghost use Rattle.tow_language.specs.Symbols.{symbol_of};
 ghost use Rattle.tow_fit.specs.declared.fault.ParseFault.TheVariants.{NoMemory};
 ghost use Rattle.tow_parse.specs.Looks.{Shows, opened};
 ghost use Rattle.tow_parse.specs.Moves.{Takes, Stops, Waits, ends_at};
@@ -12,7 +12,8 @@ use crate::part::Part;
 use crate::state::State;
 use std::alloc::Global;
 use tow_fit::ParseFault;
-use tow_model::{List, Token};
+use tow_language::Token;
+use tow_model::List;
 
 /// A reader with the count of the round and square brackets that are open; in these a Newline is white space.
 #[derive(Drop)]

@@ -1,11 +1,12 @@
 ghost use Rattle.std.specs.Prelude.{◌≡◌, ◌<◌, ◌≤◌, length, IfOk, IfSome, IfNone, slice_index, slice_range, List, ℕ};
-ghost use Rattle.tow_model.specs.Symbols.{symbol_of, unescaped, word, quoted};
+ghost use Rattle.tow_language.specs.Symbols.{symbol_of, unescaped, word, quoted};
 ghost use Rattle.tow_parse.specs.declared.look.Look.TheVariants.{Name};
 ghost use Rattle.tow_parse.specs.Looks.{Shows};
 
 use std::alloc::{AllocError, Global};
 use tow_fit::WrittenText;
-use tow_model::{Bytes, Token, TokenKind};
+use tow_language::{Token, TokenKind};
+use tow_model::Bytes;
 
 /// A Word as it is written. Takes memory for its bytes.
 pub fn written_name(alloc: Global, text: &[u8], token: Token) -> Result<WrittenText, AllocError>

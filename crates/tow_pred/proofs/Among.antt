@@ -8,7 +8,7 @@ use Rattle.tow_model.specs.declared.predicate.Predicate.TheVariants as p
 use Rattle.tow_model.specs.declared.predicate.Predicate.TheOpen as pf
 use Rattle.tow_model.specs.declared.predicate.Test.{Test}
 use Rattle.tow_model.specs.declared.predicate.Test.TheVariants as t
-use Rattle.tow_model.specs.Predicates.{AreAmong, pattern_of, patterns_by, patterns_in}
+use Rattle.tow_semantics.specs.Predicates.{AreAmong, pattern_of, patterns_by, patterns_in}
 use Rattle.tow_model.specs.Texts.{Text}
 
 -- LISTS OF TESTS

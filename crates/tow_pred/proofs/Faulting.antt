@@ -4,7 +4,7 @@ use Rattle.std.proofs.lemmas.List.{get_or_default, map-append, take-map, take_mo
 use Rattle.std.proofs.Math.ListN.{get_or-map}
 use Rattle.std.proofs.lemmas.List.Elements.{All-same}
 use Rattle.tow_link.specs.Data.{Rose}
-use Rattle.tow_model.specs.Patterns.{IsGoodPattern}
+use Rattle.tow_pattern.specs.Patterns.{IsGoodPattern}
 use Rattle.tow_model.specs.Texts.{Text}
 use Rattle.tow_pred.specs.Found.{told}
 use Rattle.tow_pred.specs.declared.finding.Found.{Found}

@@ -4,7 +4,7 @@ use Rattle.std.proofs.lemmas.Bool.Decides.{nat_tests}
 use Rattle.std.proofs.lemmas.List.Sums.{fold-append}
 use Rattle.std.specs.Option.{unwrap_or}
 use Rattle.tow_model.specs.Texts.{Text}
-use Rattle.tow_model.specs.Predicates.{longest}
+use Rattle.tow_semantics.specs.Predicates.{longest}
 
 -- how long the longest of them is
 abbrev pub most : List Text → Option ℕ

@@ -1,7 +1,7 @@
 -- Tests that bind nothing.
 use Rattle.std.proofs.Common.{◌≡◌, Bool, true, false, sym, ap}
 use Rattle.tow_model.specs.declared.record.Record.{Record}
-use Rattle.tow_model.specs.Predicates.{Held, held, where_true}
+use Rattle.tow_semantics.specs.Predicates.{Held, held, where_true}
 
 -- an answer, and the record behind it
 abbrev pub answer : Bool → Record → Held

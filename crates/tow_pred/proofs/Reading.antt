@@ -16,7 +16,7 @@ use Rattle.regex.proofs.ForCallers.{is_match_alike, span_alike, found_alike}
 use Rattle.regex_syntax.specs.Grammar.{Names, read}
 use Rattle.regex_syntax.specs.Brackets.{Nested}
 use Rattle.tow_model.specs.Fields.{field}
-use Rattle.tow_model.specs.Patterns.{over_bytes, groups, pattern_bindings}
+use Rattle.tow_pattern.specs.Patterns.{over_bytes, groups, pattern_bindings}
 use Rattle.tow_model.specs.Texts.{Text}
 use Rattle.tow_pred.specs.Built.{IsBuilt, located_groups}
 

@@ -8,8 +8,8 @@ use Rattle.tow_model.specs.declared.predicate.Predicate.{Predicate}
 use Rattle.tow_model.specs.declared.statement.Statement.{Statement, fold-roll-Statement}
 use Rattle.tow_model.specs.declared.statement.Statement.TheVariants as st
 use Rattle.tow_model.specs.declared.statement.Statement.TheOpen as sf
-use Rattle.tow_model.specs.Listeners.{joined_lists}
-use Rattle.tow_model.specs.Predicates.{AreAmong, patterns_in}
+use Rattle.tow_semantics.specs.Listeners.{joined_lists}
+use Rattle.tow_semantics.specs.Predicates.{AreAmong, patterns_in}
 use Rattle.tow_model.specs.Texts.{Text}
 use Rattle.tow_pred.specs.Numbering.{AreNumbered, statement_patterns_by, statement_patterns, tree_patterns}
 use Rattle.tow_pred.proofs.Among.{among_left, among_right}

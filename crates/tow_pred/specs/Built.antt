@@ -8,7 +8,7 @@ use Rattle.regex.specs.declared.bytes.regex.Regex.{Regex}
 use Rattle.regex.specs.declared.locations.CaptureLocations.{CaptureLocations}
 use Rattle.tow_model.specs.declared.request.Field.{Field}
 use Rattle.tow_model.specs.Fields.{field}
-use Rattle.tow_model.specs.Patterns.{over_bytes}
+use Rattle.tow_pattern.specs.Patterns.{over_bytes}
 use Rattle.tow_model.specs.Texts.{Text}
 
 -- the regex is what the grammar of patterns reads in its own text

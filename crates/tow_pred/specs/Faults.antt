@@ -1,7 +1,7 @@
 -- Patterns that a maker refuses. It counts, by the pattern's text, how often it refused one as too large.
 use Rattle.std.specs.Prelude.{◌≡◌, ℕ, List, take, All, IsSomeAnd, slice_get}
 use Rattle.tow_link.specs.Data.{Rose}
-use Rattle.tow_model.specs.Patterns.{IsGoodPattern}
+use Rattle.tow_pattern.specs.Patterns.{IsGoodPattern}
 use Rattle.tow_model.specs.Texts.{Text}
 use Rattle.tow_pred.specs.declared.fault.PatternFault.{PatternFault}
 use Rattle.tow_pred.specs.declared.fault.PatternFault.TheVariants.{BadPattern, LargePattern, NoMemory}

@@ -3,8 +3,8 @@ use Rattle.std.specs.Prelude.{◌≡◌, ℕ, List, [], ◌++◌, map, length, f
 use Rattle.std.specs.List.{range_with_len}
 use Rattle.tow_model.specs.declared.statement.Statement.{Statement, fold-Statement}
 use Rattle.tow_model.specs.declared.statement.Statement.TheOpen.{Statement-F, When, Act, Block}
-use Rattle.tow_model.specs.Listeners.{joined_lists}
-use Rattle.tow_model.specs.Predicates.{patterns_in}
+use Rattle.tow_semantics.specs.Listeners.{joined_lists}
+use Rattle.tow_semantics.specs.Predicates.{patterns_in}
 use Rattle.tow_model.specs.Texts.{Text}
 
 abbrev pub other_patterns : Option (List (ℕ × Text)) → List (ℕ × Text)

@@ -2,8 +2,8 @@
 
 ghost use Rattle.std.specs.Prelude as prelude;
 ghost use Rattle.std.specs.Prelude.{◌≡◌, ◌≢◌, ◌≤◌, All, Err, IfOk, IfErr, ℕ, map};
-ghost use Rattle.tow_model.specs.Patterns.{IsGoodPattern};
-ghost use Rattle.tow_model.specs.Predicates.{AreAmong};
+ghost use Rattle.tow_pattern.specs.Patterns.{IsGoodPattern};
+ghost use Rattle.tow_semantics.specs.Predicates.{AreAmong};
 ghost use Rattle.tow_pred.specs.Faults.{IsFaultOf, IsPatternFault};
 ghost use Rattle.tow_pred.specs.Found.{told};
 ghost use Rattle.tow_pred.specs.Numbering.{AreNumbered, IsNumbered, tree_patterns};

@@ -1,7 +1,7 @@
 //! The regex tests of a tree, in the order of the text.
 
 ghost use Rattle.std.specs.Prelude.{◌≡◌, ◌++◌, OnOk};
-ghost use Rattle.tow_model.specs.Predicates.{pattern_of, patterns_in};
+ghost use Rattle.tow_semantics.specs.Predicates.{pattern_of, patterns_in};
 ghost use Rattle.tow_pred.specs.Found.{told};
 ghost use Rattle.tow_pred.specs.Numbering.{statement_patterns, tree_patterns};
 

@@ -3,7 +3,7 @@
 ghost use Rattle.std.specs.Prelude.{◌≡◌, ◌<◌, IfOk, IsTrue};
 ghost use Rattle.std.specs.Result.{is_ok};
 ghost use Rattle.tow_model.specs.Dates.{first_undated};
-ghost use Rattle.tow_model.specs.Predicates.{AreAmong, holds_of, patterns_in};
+ghost use Rattle.tow_semantics.specs.Predicates.{AreAmong, holds_of, patterns_in};
 ghost use Rattle.tow_pred.specs.Memory.{is_plain};
 
 use crate::scratch::Scratch;

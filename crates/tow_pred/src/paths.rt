@@ -3,7 +3,7 @@
 ghost use Rattle.std.specs.Prelude.{◌≡◌, ◌≤◌, IfSome, filter, length, option_map};
 ghost use Rattle.std.specs.List.{list_any};
 ghost use Rattle.tow_model.specs.Paths as paths;
-ghost use Rattle.tow_model.specs.Predicates.{longest};
+ghost use Rattle.tow_semantics.specs.Predicates.{longest};
 ghost use Rattle.tow_model.specs.Texts as text_specs;
 ghost use Rattle.tow_model.specs.Texts.{ends_in};
 

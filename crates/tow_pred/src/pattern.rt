@@ -2,7 +2,7 @@
 
 ghost use Rattle.std.specs.Prelude.{◌≡◌, IfOk};
 ghost use Rattle.regex.specs.Bytes.{regex_source, regex_config, IsReadFromSource};
-ghost use Rattle.tow_model.specs.Patterns.{over_bytes};
+ghost use Rattle.tow_pattern.specs.Patterns.{over_bytes};
 
 use crate::search::Search;
 use regex::bytes::Regex;

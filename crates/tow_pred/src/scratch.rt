@@ -1,7 +1,7 @@
 //! What searches for the patterns of some tests.
 
 ghost use Rattle.std.specs.Prelude.{◌≡◌, ◌<◌, IfOk, IfSome, length, slice_get};
-ghost use Rattle.tow_model.specs.Patterns.{pattern_bindings};
+ghost use Rattle.tow_pattern.specs.Patterns.{pattern_bindings};
 
 use crate::pattern::Pattern;
 use crate::patterns::Tests;

@@ -4,7 +4,7 @@ ghost use Rattle.std.specs.Prelude.{◌≡◌, IfOk, decimal, slice_range};
 ghost use Rattle.regex.specs.Bytes.{regex_source};
 ghost use Rattle.regex.specs.Replace.{bytes_of};
 ghost use Rattle.tow_model.specs.Fields as fields;
-ghost use Rattle.tow_model.specs.Patterns.{pattern_bindings};
+ghost use Rattle.tow_pattern.specs.Patterns.{pattern_bindings};
 ghost use Rattle.tow_pred.specs.Built.{IsBuilt, located_groups};
 
 use crate::context::field;

@@ -3,7 +3,7 @@
 ghost use Rattle.std.specs.Prelude.{◌≡◌, ◌<◌, IfOk};
 ghost use Rattle.tow_model.specs.Dates.{first_undated};
 ghost use Rattle.tow_model.specs.Paths.{template_bindings};
-ghost use Rattle.tow_model.specs.Values.{value_of};
+ghost use Rattle.tow_semantics.specs.Values.{value_of};
 
 use std::alloc::Global;
 use tow_attr::value;

@@ -2,9 +2,9 @@
 
 ghost use Rattle.std.specs.Prelude.{◌≡◌, ◌<◌, IfOk, IfSome, IsTrue, length, slice_get};
 ghost use Rattle.tow_model.specs.Dates.{first_undated};
-ghost use Rattle.tow_model.specs.Patterns.{pattern_bindings};
-ghost use Rattle.tow_model.specs.Predicates.{AreAmong, held, pattern_of, prefix_bindings, test_of};
-ghost use Rattle.tow_model.specs.Values.{value_of};
+ghost use Rattle.tow_pattern.specs.Patterns.{pattern_bindings};
+ghost use Rattle.tow_semantics.specs.Predicates.{AreAmong, held, pattern_of, prefix_bindings, test_of};
+ghost use Rattle.tow_semantics.specs.Values.{value_of};
 ghost use Rattle.tow_pred.specs.Memory.{is_plain_test};
 ghost use Rattle.std.specs.Result.{is_ok};
 

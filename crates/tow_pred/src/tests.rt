@@ -2,7 +2,7 @@
 
 ghost use Rattle.std.specs.Prelude.{◌≡◌, true, IfOk};
 ghost use Rattle.tow_pred.specs.Found.{told};
-ghost use Rattle.tow_model.specs.Predicates.{AreAmong};
+ghost use Rattle.tow_semantics.specs.Predicates.{AreAmong};
 ghost use Rattle.tow_pred.specs.Numbering.{AreNumbered, IsNumbered, statement_patterns};
 
 use crate::finding::{Found, find_in_tree};
@@ -13,10 +13,7 @@ use std::alloc::{AllocError, Global};
 use std::test::Fail;
 use tow_attr::read_template;
 use tow_link::PackMaker;
-use tow_model::{
-    Action, Bytes, Choice, Field, Framing, List, NoMemory, Predicate, Record, Request, Segment,
-    Statement, Template, Test, Tree, Version,
-};
+use tow_model::{Action, Bytes, Choice, Field, Framing, List, NoMemory, Predicate, Record, Request, Segment, Statement, Template, Test, Tree, Version};
 
 /// `Sun, 06 Nov 1994 08:49:37 GMT`.
 const MOMENT: u64 = 784_111_777;

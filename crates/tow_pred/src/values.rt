@@ -4,9 +4,9 @@ ghost use Rattle.std.specs.Prelude.{◌≡◌, ◌<◌, IfOk, not, map};
 ghost use Rattle.std.specs.List.{list_any, list_all};
 ghost use Rattle.std.specs.Str.{bytes_eq};
 ghost use Rattle.tow_model.specs.Dates.{first_undated};
-ghost use Rattle.tow_model.specs.Predicates.{all_same};
+ghost use Rattle.tow_semantics.specs.Predicates.{all_same};
 ghost use Rattle.tow_model.specs.Texts.{contains, is_empty};
-ghost use Rattle.tow_model.specs.Values.{value_of};
+ghost use Rattle.tow_semantics.specs.Values.{value_of};
 
 use memchr::memmem;
 use std::alloc::Global;

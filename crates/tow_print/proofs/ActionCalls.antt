@@ -1,20 +1,20 @@
 -- The action of a textual call is printed as a call that fits it again, and its printed form is UTF-8.
 use Rattle.std.specs.Prelude.{◌≡◌, ℕ, ◌+◌, Bool, true, false, ◌&&◌, nat_le, List, [], ◌∷◌, map, decimal, if◌then◌else◌, Ok, IsUtf8}
 use Rattle.std.proofs.Common.{refl, sym, ap, ap₂, ◌∙◌, subst}
-use Rattle.tow_model.specs.declared.kind.Kind.TheVariants.{UnknownName, TooManyLimits}
+use Rattle.tow_language.specs.declared.kind.Kind.TheVariants.{UnknownName, TooManyLimits}
 use Rattle.tow_model.specs.declared.action.Target.{Target}
 use Rattle.tow_model.specs.declared.action.Action.{Action}
 use Rattle.tow_model.specs.declared.action.Action.TheVariants as actions
-use Rattle.tow_model.specs.declared.table.Handler.{Handler}
-use Rattle.tow_model.specs.declared.table.Handler.TheVariants as handlers
-use Rattle.tow_model.specs.declared.table.Given.{Given}
-use Rattle.tow_model.specs.declared.table.Given.TheVariants as givens
-use Rattle.tow_model.specs.declared.table.Shape.TheVariants as shapes
-use Rattle.tow_model.specs.Raw.{RawCall}
-use Rattle.tow_model.specs.Table.{handler_named, handler_parameters}
-use Rattle.tow_model.specs.Templates.{spelled_attribute, common}
-use Rattle.tow_model.specs.Fit.{Counts, Fitted, ◌>>=◌, fault, wanted, givens_of, made_action, is_limit, fit_action}
-use Rattle.tow_model.specs.Printed.{printed_text, printed_prefix, printed_template, printed_array, printed_target, printed_truth, written_template, printed_action}
+use Rattle.tow_language.specs.declared.table.Handler.{Handler}
+use Rattle.tow_language.specs.declared.table.Handler.TheVariants as handlers
+use Rattle.tow_language.specs.declared.table.Given.{Given}
+use Rattle.tow_language.specs.declared.table.Given.TheVariants as givens
+use Rattle.tow_language.specs.declared.table.Shape.TheVariants as shapes
+use Rattle.tow_language.specs.Raw.{RawCall}
+use Rattle.tow_language.specs.Table.{handler_named, handler_parameters}
+use Rattle.tow_language.specs.Templates.{spelled_attribute, common}
+use Rattle.tow_language.specs.Fit.{Counts, Fitted, ◌>>=◌, fault, wanted, givens_of, made_action, is_limit, fit_action}
+use Rattle.tow_language.specs.Printed.{printed_text, printed_prefix, printed_template, printed_array, printed_target, printed_truth, written_template, printed_action}
 use Rattle.tow_print.proofs.Predicates.{Same, bind_ok, ok_pair}
 use Rattle.tow_print.proofs.Statements.{ActionReads, ActionsRead}
 use Rattle.tow_print.proofs.Fits.{with_slash}

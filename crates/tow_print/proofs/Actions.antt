@@ -4,25 +4,25 @@ use Rattle.std.specs.List.{list_all}
 use Rattle.std.proofs.Common.{refl, sym, ap, ◌∙◌, subst}
 use Rattle.http_header.specs.FieldName.{is_field_name}
 use Rattle.http_header.specs.Token.{lowercase}
-use Rattle.tow_model.specs.declared.kind.Kind.TheVariants.{UnknownName, BadParameter, BadAttribute, BadTarget, TooManyLimits}
+use Rattle.tow_language.specs.declared.kind.Kind.TheVariants.{UnknownName, BadParameter, BadAttribute, BadTarget, TooManyLimits}
 use Rattle.tow_model.specs.declared.attribute.Attribute.{Attribute}
 use Rattle.tow_model.specs.declared.attribute.Piece.{Piece}
 use Rattle.tow_model.specs.declared.attribute.Piece.TheVariants.{Value}
 use Rattle.tow_model.specs.declared.action.Target.{Target}
 use Rattle.tow_model.specs.declared.action.Action.{Action}
 use Rattle.tow_model.specs.declared.action.Action.TheVariants as actions
-use Rattle.tow_model.specs.declared.table.Handler.{Handler}
-use Rattle.tow_model.specs.declared.table.Handler.TheVariants as handlers
-use Rattle.tow_model.specs.declared.table.Given.{Given}
-use Rattle.tow_model.specs.declared.table.Given.TheVariants as givens
-use Rattle.tow_model.specs.declared.table.Shape.TheVariants as shapes
-use Rattle.tow_model.specs.Raw.{Written, RawValue, one, named, unnamed, RawCall}
-use Rattle.tow_model.specs.Grammar.{is_reserved}
-use Rattle.tow_model.specs.Table.{Parameter, handler_name, handler_named, handler_parameters}
-use Rattle.tow_model.specs.Templates.{template_of, spelled_attribute, common}
-use Rattle.tow_model.specs.Shapes.{status_of, number_of, prefix_of, target_of, is_kept_field}
-use Rattle.tow_model.specs.Fit.{Counts, Fitted, ◌>>=◌, fault, wanted, given_of, unused, filled, givens_of, made_action, is_limit, is_method, fit_action, template_at, writable_at, field_at, format_at}
-use Rattle.tow_model.specs.Printed.{is_word, printed_text, written_template, printed_template, printed_prefix, printed_array, printed_target, printed_truth, printed_action}
+use Rattle.tow_language.specs.declared.table.Handler.{Handler}
+use Rattle.tow_language.specs.declared.table.Handler.TheVariants as handlers
+use Rattle.tow_language.specs.declared.table.Given.{Given}
+use Rattle.tow_language.specs.declared.table.Given.TheVariants as givens
+use Rattle.tow_language.specs.declared.table.Shape.TheVariants as shapes
+use Rattle.tow_language.specs.Raw.{Written, RawValue, one, named, unnamed, RawCall}
+use Rattle.tow_language.specs.Grammar.{is_reserved}
+use Rattle.tow_language.specs.Table.{Parameter, handler_name, handler_named, handler_parameters}
+use Rattle.tow_language.specs.Templates.{template_of, spelled_attribute, common}
+use Rattle.tow_language.specs.Shapes.{status_of, number_of, prefix_of, target_of, is_kept_field}
+use Rattle.tow_language.specs.Fit.{Counts, Fitted, ◌>>=◌, fault, wanted, given_of, unused, filled, givens_of, made_action, is_limit, is_method, fit_action, template_at, writable_at, field_at, format_at}
+use Rattle.tow_language.specs.Printed.{is_word, printed_text, written_template, printed_template, printed_prefix, printed_array, printed_target, printed_truth, printed_action}
 use Rattle.tow_print.proofs.Predicates.{Same, bind_is}
 use Rattle.tow_print.proofs.Texts.{IsFine, written}
 use Rattle.tow_print.proofs.Statements.{ActionReads}

@@ -1,6 +1,6 @@
 -- The printed form of a tree that some text has is a text with that tree.
-use Rattle.tow_model.specs.Laws.{PrintReadsBack}
-use Rattle.tow_model.specs.Fit.{no_counts}
+use Rattle.tow_language.specs.Laws.{PrintReadsBack}
+use Rattle.tow_language.specs.Fit.{no_counts}
 use Rattle.tow_print.proofs.Whole.{print_reads}
 use Rattle.tow_print.proofs.Textual.{TextualCall, values_are_textual}
 use Rattle.tow_print.proofs.TestCalls.{tests_read, test_utf8}

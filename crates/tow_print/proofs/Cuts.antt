@@ -2,9 +2,9 @@
 use Rattle.std.specs.Prelude.{◌≡◌, ℕ, ◌+◌, ◌-◌, List, [], ◌∷◌, ◌++◌, length, take, drop, slice_range}
 use Rattle.std.proofs.Common.{refl, sym, ap, ap₂, ◌∙◌, arith, append_assoc, length-append}
 use Rattle.std.proofs.Math.Seq.{take-append_seam}
-use Rattle.tow_model.specs.declared.token.Token.{Token}
-use Rattle.tow_model.specs.Tokens.{CutsUpTo}
-use Rattle.tow_model.specs.Symbols.{Symbol, sign_of, symbols_of}
+use Rattle.tow_language.specs.declared.token.Token.{Token}
+use Rattle.tow_language.specs.Tokens.{CutsUpTo}
+use Rattle.tow_language.specs.Symbols.{Symbol, sign_of, symbols_of}
 use Rattle.tow_print.proofs.Shown.{Show}
 
 drop_front : (front back : List ℕ) → drop (length front) (front ++ back) ≡ back

@@ -5,12 +5,12 @@ use Rattle.std.specs.Option.{option_or}
 use Rattle.std.proofs.Common.{refl, sym, ap, ap₂, ◌∙◌, subst}
 use mathlib.Core.Logic.{inl, inr}
 use Rattle.std.proofs.lemmas.Slice.Eq.{bytes_eq-Decides}
-use Rattle.tow_model.specs.declared.kind.Kind.TheVariants.{BadParameter}
-use Rattle.tow_model.specs.declared.table.Given.{Given}
-use Rattle.tow_model.specs.Raw.{Written, RawValue, one, array, RawParameters, unnamed, named, RawCall}
-use Rattle.tow_model.specs.Shapes.{all_some}
-use Rattle.tow_model.specs.Table.{Parameter, takes_array}
-use Rattle.tow_model.specs.Fit.{◌>>=◌, fault, wanted, place_of, given_of, text_of, gathered, paired, Found, unused, found_of, filled, givens_of}
+use Rattle.tow_language.specs.declared.kind.Kind.TheVariants.{BadParameter}
+use Rattle.tow_language.specs.declared.table.Given.{Given}
+use Rattle.tow_language.specs.Raw.{Written, RawValue, one, array, RawParameters, unnamed, named, RawCall}
+use Rattle.tow_language.specs.Shapes.{all_some}
+use Rattle.tow_language.specs.Table.{Parameter, takes_array}
+use Rattle.tow_language.specs.Fit.{◌>>=◌, fault, wanted, place_of, given_of, text_of, gathered, paired, Found, unused, found_of, filled, givens_of}
 use Rattle.tow_print.proofs.Predicates.{bind_ok}
 use Rattle.tow_print.proofs.Paths.{some_mapped}
 use Rattle.tow_print.proofs.Textual.{OfEach, AllTextual, TextualValue, TextualParameters, TextualCall}

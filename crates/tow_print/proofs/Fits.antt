@@ -2,25 +2,25 @@
 use Rattle.std.specs.Prelude.{◌≡◌, ℕ, ◌+◌, ◌==◌, true, false, if◌then◌else◌, List, [], ◌∷◌, ◌++◌, map, length, codes, Some, None, Ok}
 use Rattle.std.specs.List.{join_with_byte}
 use Rattle.std.proofs.Common.{refl, sym, ap, ◌∙◌, subst, length-append}
-use Rattle.tow_model.specs.declared.kind.Kind.TheVariants.{UnknownName, BadParameter}
+use Rattle.tow_language.specs.declared.kind.Kind.TheVariants.{UnknownName, BadParameter}
 use Rattle.tow_model.specs.declared.attribute.Piece.{Piece}
 use Rattle.tow_model.specs.declared.predicate.Test.{Test}
 use Rattle.tow_model.specs.declared.predicate.Test.TheVariants as tests
-use Rattle.tow_model.specs.declared.table.TestName.{TestName}
-use Rattle.tow_model.specs.declared.table.TestName.TheVariants as test_names
-use Rattle.tow_model.specs.declared.table.Given.{Given}
-use Rattle.tow_model.specs.declared.table.Given.TheVariants as givens
-use Rattle.tow_model.specs.declared.table.Shape.TheVariants as shapes
-use Rattle.tow_model.specs.Raw.{Written, RawValue, named, unnamed, RawCall}
-use Rattle.tow_model.specs.Grammar.{is_reserved}
+use Rattle.tow_language.specs.declared.table.TestName.{TestName}
+use Rattle.tow_language.specs.declared.table.TestName.TheVariants as test_names
+use Rattle.tow_language.specs.declared.table.Given.{Given}
+use Rattle.tow_language.specs.declared.table.Given.TheVariants as givens
+use Rattle.tow_language.specs.declared.table.Shape.TheVariants as shapes
+use Rattle.tow_language.specs.Raw.{Written, RawValue, named, unnamed, RawCall}
+use Rattle.tow_language.specs.Grammar.{is_reserved}
 use Rattle.tow_model.specs.declared.predicate.Segment.{Segment}
-use Rattle.tow_model.specs.Tokens.{last_byte}
-use Rattle.tow_model.specs.Shapes.{prefix_of, segments_of}
-use Rattle.tow_model.specs.Table.{the_path, Parameter, test_name, test_named, test_parameters}
-use Rattle.tow_model.specs.Templates.{template_of}
+use Rattle.tow_language.specs.Tokens.{last_byte}
+use Rattle.tow_language.specs.Shapes.{prefix_of, segments_of}
+use Rattle.tow_language.specs.Table.{the_path, Parameter, test_name, test_named, test_parameters}
+use Rattle.tow_language.specs.Templates.{template_of}
 use Rattle.tow_model.specs.Paths.{rooted}
-use Rattle.tow_model.specs.Fit.{Counts, ◌>>=◌, wanted, given_of, unused, found_of, filled, givens_of, made_test, fit_test, template_at, templates_at}
-use Rattle.tow_model.specs.Printed.{is_word, printed_text, printed_prefix, written_template, printed_template, printed_array, printed_match, spelled_segment, printed_test}
+use Rattle.tow_language.specs.Fit.{Counts, ◌>>=◌, wanted, given_of, unused, found_of, filled, givens_of, made_test, fit_test, template_at, templates_at}
+use Rattle.tow_language.specs.Printed.{is_word, printed_text, printed_prefix, written_template, printed_template, printed_array, printed_match, spelled_segment, printed_test}
 use Rattle.tow_print.proofs.Predicates.{Same, TestReads, bind_is}
 use Rattle.tow_print.proofs.Texts.{IsFine, written}
 use Rattle.tow_print.proofs.Values.{AreFine, ValueReads, IsOne, IsArray, IsPair, ArePairs, text_reads, array_reads, one_pair, two_pairs, bare_reads, call_reads}

@@ -5,10 +5,10 @@ use Rattle.std.proofs.lemmas.Slice.Eq.{bytes_eq-Decides}
 use mathlib.Core.Logic.{inr}
 use Rattle.tow_model.specs.declared.attribute.Piece.{Piece}
 use Rattle.tow_model.specs.declared.attribute.Piece.TheVariants.{Literal}
-use Rattle.tow_model.specs.Laws.{Spells}
-use Rattle.tow_model.specs.Templates.{template_of, spelled_piece, common, combined}
-use Rattle.tow_model.specs.Fit.{template_at, format_at}
-use Rattle.tow_model.specs.Printed.{written_template}
+use Rattle.tow_language.specs.Laws.{Spells}
+use Rattle.tow_language.specs.Templates.{template_of, spelled_piece, common, combined}
+use Rattle.tow_language.specs.Fit.{template_at, format_at}
+use Rattle.tow_language.specs.Printed.{written_template}
 use Rattle.tow_attr.proofs.Spelled.{templates_are_spelled}
 use Rattle.tow_print.proofs.Fits.{template_is}
 use Rattle.tow_print.proofs.Textual.{IsTextual}

@@ -11,9 +11,9 @@ use Rattle.tow_model.specs.declared.attribute.Attribute.{Attribute}
 use Rattle.tow_model.specs.declared.attribute.Attribute.TheVariants.{Method, RequestUrl, RelativePath, Query, Status, RequestLine, Protocol, RemoteIp, RemoteHost, Ident, User, Moment, Sent, SentOrDash, RequestField, ResponseField, Param, Cookie, Context}
 use Rattle.tow_model.specs.declared.attribute.Piece.{Piece}
 use Rattle.tow_model.specs.declared.attribute.Piece.TheVariants.{Literal, Value}
-use Rattle.tow_model.specs.Tokens.{are_pieces, last_byte}
-use Rattle.tow_model.specs.Templates.{by_letter, by_word, field_named, any_named, spelled_attribute, spelled_piece, spelled_template, long_word, spelled_long}
-use Rattle.tow_model.specs.Laws.{IsFormOf, Spells}
+use Rattle.tow_language.specs.Tokens.{are_pieces, last_byte}
+use Rattle.tow_language.specs.Templates.{by_letter, by_word, field_named, any_named, spelled_attribute, spelled_piece, spelled_template, long_word, spelled_long}
+use Rattle.tow_language.specs.Laws.{IsFormOf, Spells}
 use Rattle.tow_attr.proofs.Shapes.{last_added}
 use Rattle.tow_print.proofs.Pieces.{spelled_before, long_is}
 use Rattle.tow_print.proofs.Scans.{is_one_line, IsBraced, in_braces}

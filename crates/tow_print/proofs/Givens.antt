@@ -3,22 +3,22 @@ use Rattle.std.specs.Prelude.{◌≡◌, ℕ, Bool, true, false, List, [], ◌�
 use Rattle.std.specs.List.{list_all}
 use Rattle.std.proofs.Common.{refl, sym, ap, ap₂, ◌∙◌, subst}
 use mathlib.Core.Logic.{inr}
-use Rattle.tow_model.specs.declared.kind.Kind.{Kind}
-use Rattle.tow_model.specs.declared.kind.Kind.TheVariants.{BadParameter, BadTarget}
+use Rattle.tow_language.specs.declared.kind.Kind.{Kind}
+use Rattle.tow_language.specs.declared.kind.Kind.TheVariants.{BadParameter, BadTarget}
 use Rattle.tow_model.specs.declared.attribute.Piece.{Piece}
 use Rattle.tow_model.specs.declared.attribute.Piece.TheVariants.{Value}
 use Rattle.tow_model.specs.declared.attribute.Attribute.TheVariants.{RelativePath}
 use Rattle.tow_model.specs.declared.action.Target.{Target}
-use Rattle.tow_model.specs.declared.table.Shape.{Shape}
-use Rattle.tow_model.specs.declared.table.Shape.TheVariants as shapes
-use Rattle.tow_model.specs.declared.table.Given.{Given}
-use Rattle.tow_model.specs.declared.table.Given.TheVariants as givens
-use Rattle.tow_model.specs.Raw.{RawValue}
-use Rattle.tow_model.specs.Templates.{template_of, common}
+use Rattle.tow_language.specs.declared.table.Shape.{Shape}
+use Rattle.tow_language.specs.declared.table.Shape.TheVariants as shapes
+use Rattle.tow_language.specs.declared.table.Given.{Given}
+use Rattle.tow_language.specs.declared.table.Given.TheVariants as givens
+use Rattle.tow_language.specs.Raw.{RawValue}
+use Rattle.tow_language.specs.Templates.{template_of, common}
 use Rattle.tow_model.specs.Paths.{rooted}
-use Rattle.tow_model.specs.Shapes.{prefix_of, number_of, status_of, truth_of, segments_of, target_of}
-use Rattle.tow_model.specs.Table.{the_path}
-use Rattle.tow_model.specs.Fit.{TextFault, ◌>>=◌, fault, wanted, place_of, single_text, some_texts, template_at, templates_at, writable_at, field_at, format_at, is_method, given_of}
+use Rattle.tow_language.specs.Shapes.{prefix_of, number_of, status_of, truth_of, segments_of, target_of}
+use Rattle.tow_language.specs.Table.{the_path}
+use Rattle.tow_language.specs.Fit.{TextFault, ◌>>=◌, fault, wanted, place_of, single_text, some_texts, template_at, templates_at, writable_at, field_at, format_at, is_method, given_of}
 use Rattle.tow_print.proofs.Predicates.{bind_ok}
 use Rattle.tow_print.proofs.Fits.{with_slash}
 use Rattle.tow_print.proofs.Names.{IsWritable, writable_again, name_again}

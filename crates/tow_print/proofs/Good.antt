@@ -5,16 +5,16 @@ use Rattle.std.proofs.Common.{refl, sym, ap, ◌∙◌, subst}
 use Rattle.tow_model.specs.declared.attribute.Piece.{Piece}
 use Rattle.tow_model.specs.declared.action.Target.{Target}
 use Rattle.tow_model.specs.declared.predicate.Segment.{Segment}
-use Rattle.tow_model.specs.declared.table.Shape.{Shape}
-use Rattle.tow_model.specs.declared.table.Shape.TheVariants as shapes
-use Rattle.tow_model.specs.declared.table.Given.{Given}
-use Rattle.tow_model.specs.declared.table.Given.TheVariants as givens
-use Rattle.tow_model.specs.Raw.{Written, RawValue, one, array}
-use Rattle.tow_model.specs.Templates.{template_of}
+use Rattle.tow_language.specs.declared.table.Shape.{Shape}
+use Rattle.tow_language.specs.declared.table.Shape.TheVariants as shapes
+use Rattle.tow_language.specs.declared.table.Given.{Given}
+use Rattle.tow_language.specs.declared.table.Given.TheVariants as givens
+use Rattle.tow_language.specs.Raw.{Written, RawValue, one, array}
+use Rattle.tow_language.specs.Templates.{template_of}
 use Rattle.tow_model.specs.Paths.{rooted}
-use Rattle.tow_model.specs.Shapes.{prefix_of, number_of, status_of, segments_of}
-use Rattle.tow_model.specs.Fit.{◌>>=◌, single_text, some_texts, template_at, templates_at, format_at, is_method}
-use Rattle.tow_model.specs.Printed.{written_template}
+use Rattle.tow_language.specs.Shapes.{prefix_of, number_of, status_of, segments_of}
+use Rattle.tow_language.specs.Fit.{◌>>=◌, single_text, some_texts, template_at, templates_at, format_at, is_method}
+use Rattle.tow_language.specs.Printed.{written_template}
 use Rattle.tow_print.proofs.Predicates.{bind_ok}
 use Rattle.tow_print.proofs.Fits.{with_slash, spelled_match, AreAgain}
 use Rattle.tow_print.proofs.Long.{written_again}

@@ -8,11 +8,11 @@ use mathlib.Core.Logic.{inl, inr}
 use Rattle.tow_model.specs.declared.attribute.Attribute.{Attribute}
 use Rattle.tow_model.specs.declared.attribute.Piece.{Piece}
 use Rattle.tow_model.specs.declared.attribute.Piece.TheVariants.{Literal, Value}
-use Rattle.tow_model.specs.Tokens.{are_pieces, last_byte}
-use Rattle.tow_model.specs.Templates.{template_of, spelled_attribute, spelled_piece, spelled_template, long_word, spelled_long}
-use Rattle.tow_model.specs.Laws.{IsNoLiteral, Spells}
-use Rattle.tow_model.specs.Printed.{is_word, is_unquotable, written_template}
-use Rattle.tow_model.proofs.Cut.{sigil}
+use Rattle.tow_language.specs.Tokens.{are_pieces, last_byte}
+use Rattle.tow_language.specs.Templates.{template_of, spelled_attribute, spelled_piece, spelled_template, long_word, spelled_long}
+use Rattle.tow_language.specs.Laws.{IsNoLiteral, Spells}
+use Rattle.tow_language.specs.Printed.{is_word, is_unquotable, written_template}
+use Rattle.tow_language.proofs.Cut.{sigil}
 use Rattle.tow_attr.proofs.Braced.{form_is}
 use Rattle.tow_attr.proofs.Shapes.{IsShape, two, braced, not_true}
 use Rattle.tow_attr.proofs.Spelled.{templates_are_spelled}

@@ -2,11 +2,11 @@
 use Rattle.std.specs.Prelude.{◌≡◌, ℕ, ◌+◌, List, ◌∷◌, ◌++◌, length, codes, IsTrue}
 use Rattle.std.specs.List.{list_all}
 use Rattle.std.proofs.Common.{zero, suc, refl}
-use Rattle.tow_model.specs.declared.token.TokenKind.{TokenKind}
-use Rattle.tow_model.specs.declared.token.TokenKind.TheVariants.{Semi, Comma, Equals, OpenBrace, CloseBrace, Arrow}
-use Rattle.tow_model.specs.Tokens.{is_white}
-use Rattle.tow_model.specs.Symbols.{mark, Symbol, joined}
-use Rattle.tow_model.specs.Grammar.{Mark, Placed}
+use Rattle.tow_language.specs.declared.token.TokenKind.{TokenKind}
+use Rattle.tow_language.specs.declared.token.TokenKind.TheVariants.{Semi, Comma, Equals, OpenBrace, CloseBrace, Arrow}
+use Rattle.tow_language.specs.Tokens.{is_white}
+use Rattle.tow_language.specs.Symbols.{mark, Symbol, joined}
+use Rattle.tow_language.specs.Grammar.{Mark, Placed}
 use Rattle.tow_print.proofs.Shown.{Shown}
 use Rattle.tow_print.proofs.Texts.{IsEnd, one_shown}
 

@@ -5,18 +5,18 @@ use Rattle.std.proofs.Common.{refl, sym, ap, ◌∙◌, subst, append-nil}
 use mathlib.Core.Logic.{inr}
 use Rattle.http_header.specs.FieldName.{is_field_name}
 use Rattle.http_header.specs.Token.{lowercase}
-use Rattle.tow_model.specs.declared.kind.Kind.TheVariants.{BadAttribute, BadTarget}
+use Rattle.tow_language.specs.declared.kind.Kind.TheVariants.{BadAttribute, BadTarget}
 use Rattle.tow_model.specs.declared.attribute.Attribute.{Attribute}
 use Rattle.tow_model.specs.declared.attribute.Attribute.TheVariants as attributes
 use Rattle.tow_model.specs.declared.attribute.Piece.{Piece}
 use Rattle.tow_model.specs.declared.attribute.Piece.TheVariants.{Value}
 use Rattle.tow_model.specs.declared.action.Target.{Target}
 use Rattle.tow_model.specs.declared.action.Target.TheVariants as targets
-use Rattle.tow_model.specs.Tokens.{last_byte}
-use Rattle.tow_model.specs.Templates.{field_named, template_of, spelled_attribute, spelled_template, spelled_long}
-use Rattle.tow_model.specs.Shapes.{is_kept_field, target_of}
-use Rattle.tow_model.specs.Fit.{fault, field_at}
-use Rattle.tow_model.specs.Printed.{is_word, printed_text, written_template, printed_target}
+use Rattle.tow_language.specs.Tokens.{last_byte}
+use Rattle.tow_language.specs.Templates.{field_named, template_of, spelled_attribute, spelled_template, spelled_long}
+use Rattle.tow_language.specs.Shapes.{is_kept_field, target_of}
+use Rattle.tow_language.specs.Fit.{fault, field_at}
+use Rattle.tow_language.specs.Printed.{is_word, printed_text, written_template, printed_target}
 use Rattle.tow_attr.proofs.Shapes.{not_true, both_left, both_right, last_added}
 use Rattle.tow_print.proofs.Templates.{field_is, own_field, name_token, tokens_without, template_again}
 use Rattle.tow_print.proofs.Textual.{IsTextual}

@@ -7,9 +7,9 @@ use Rattle.std.proofs.lemmas.Fmt.{IsAscii-decimal, decimal_nonempty, length-deci
 use Rattle.std.proofs.lemmas.Str.{IsUtf8-from_ascii}
 use Rattle.std.proofs.lemmas.Str.Parse.{FoldsDigits, IsNumeralModel, numerals_by_fold, tells_all_ascii_digits, digits_value_short}
 use Rattle.std.specs.Str.{all_ascii_digits}
-use Rattle.tow_model.specs.Tokens.{begins_piece, opens_brace, are_pieces}
-use Rattle.tow_model.specs.Shapes.{number_of, status_of}
-use Rattle.tow_model.specs.Printed.{is_word}
+use Rattle.tow_language.specs.Tokens.{begins_piece, opens_brace, are_pieces}
+use Rattle.tow_language.specs.Shapes.{number_of, status_of}
+use Rattle.tow_language.specs.Printed.{is_word}
 use Rattle.tow_attr.proofs.Shapes.{both_left, both_right}
 use Rattle.tow_print.proofs.Paths.{some_then, some_if}
 

@@ -7,11 +7,11 @@ use Rattle.std.proofs.lemmas.List.Splits.{join_with_byte-slice_split}
 use mathlib.Core.Logic.{inl, inr}
 use Rattle.tow_model.specs.declared.predicate.Segment.{Segment}
 use Rattle.tow_model.specs.declared.predicate.Segment.TheVariants.{Fixed, Bind}
-use Rattle.tow_model.specs.Tokens.{last_byte}
+use Rattle.tow_language.specs.Tokens.{last_byte}
 use Rattle.tow_model.specs.Texts.{begins_with, cut_at}
 use Rattle.tow_model.specs.Paths.{slash, rooted}
-use Rattle.tow_model.specs.Shapes.{without_last_slashes, prefix_of, is_name_byte, before_brace, segment_of, all_some, are_names_apart, segments_of}
-use Rattle.tow_model.specs.Printed.{spelled_segment}
+use Rattle.tow_language.specs.Shapes.{without_last_slashes, prefix_of, is_name_byte, before_brace, segment_of, all_some, are_names_apart, segments_of}
+use Rattle.tow_language.specs.Printed.{spelled_segment}
 use Rattle.tow_attr.proofs.Shapes.{last_added}
 use Rattle.tow_fit.proofs.Slashes.{slash_goes}
 use Rattle.tow_print.proofs.Texts.{IsFine}

@@ -6,8 +6,8 @@ use Rattle.std.proofs.lemmas.Grind.{flat_map-append}
 use Rattle.std.proofs.lemmas.List.{drop_more, take_more, take-append-drop}
 use Rattle.tow_model.specs.declared.attribute.Piece.{Piece}
 use Rattle.tow_model.specs.declared.attribute.Piece.TheVariants.{Literal}
-use Rattle.tow_model.specs.Tokens.{last_byte}
-use Rattle.tow_model.specs.Templates.{spelled_piece, spelled_template, long_form, spelled_long}
+use Rattle.tow_language.specs.Tokens.{last_byte}
+use Rattle.tow_language.specs.Templates.{spelled_piece, spelled_template, long_form, spelled_long}
 
 pub last_append : (before : ℕ) (a b : List ℕ) → last_byte before (a ++ b) ≡ last_byte (last_byte before a) b
 last_append before [] b = refl

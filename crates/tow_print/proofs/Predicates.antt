@@ -2,18 +2,18 @@
 use Rattle.std.specs.Prelude.{◌≡◌, ℕ, ◌+◌, ◌-◌, ◌≤◌, List, [], ◌∷◌, ◌++◌, length, codes, Result, Ok, Err, ⊤, IsTrue}
 use Rattle.std.specs.List.{list_all}
 use Rattle.std.proofs.Common.{zero, suc, refl, sym, ap, ◌∙◌, arith, subst, append_assoc}
-use Rattle.tow_model.specs.declared.token.TokenKind.TheVariants.{OpenRound, CloseRound}
+use Rattle.tow_language.specs.declared.token.TokenKind.TheVariants.{OpenRound, CloseRound}
 use Rattle.tow_model.specs.declared.predicate.Test.{Test}
 use Rattle.tow_model.specs.declared.predicate.Predicate.{Predicate}
 use Rattle.tow_model.specs.declared.predicate.Predicate.TheVariants.{Is, Not, And, Or}
-use Rattle.tow_model.specs.Tokens.{is_white}
-use Rattle.tow_model.specs.Symbols.{mark, Symbol, joined}
-use Rattle.tow_model.specs.Raw.{RawCall, RawPredicate, alone, or_more, RawConjunction, single, and_more, RawFactor, test, negated, grouped}
-use Rattle.tow_model.specs.Grammar.{Rest, Mark, Keyword, CallThen, PredicateThen, ConjunctionThen, FactorThen}
-use Rattle.tow_model.specs.Levels.{PredicateWithin, ConjunctionWithin, FactorWithin}
-use Rattle.tow_model.specs.Fit.{TextFault, Counts, Fitted, ◌>>=◌, fit_test, fit_predicate, fit_or, fit_conjunction, fit_and, fit_factor}
-use Rattle.tow_model.specs.Printed.{printed_test}
-use Rattle.tow_model.proofs.Folds.{printed_at, at_is, at_not, at_and, at_or}
+use Rattle.tow_language.specs.Tokens.{is_white}
+use Rattle.tow_language.specs.Symbols.{mark, Symbol, joined}
+use Rattle.tow_language.specs.Raw.{RawCall, RawPredicate, alone, or_more, RawConjunction, single, and_more, RawFactor, test, negated, grouped}
+use Rattle.tow_language.specs.Grammar.{Rest, Mark, Keyword, CallThen, PredicateThen, ConjunctionThen, FactorThen}
+use Rattle.tow_language.specs.Levels.{PredicateWithin, ConjunctionWithin, FactorWithin}
+use Rattle.tow_language.specs.Fit.{TextFault, Counts, Fitted, ◌>>=◌, fit_test, fit_predicate, fit_or, fit_conjunction, fit_and, fit_factor}
+use Rattle.tow_language.specs.Printed.{printed_test}
+use Rattle.tow_language.proofs.Folds.{printed_at, at_is, at_not, at_and, at_or}
 use Rattle.tow_print.proofs.Shown.{Shown, shown_then, shown_as}
 use Rattle.tow_print.proofs.Texts.{IsEnd, one_shown, keyword_shown}
 

@@ -7,8 +7,8 @@ use Rattle.std.proofs.lemmas.Bool.{eqb-true}
 use Rattle.std.proofs.lemmas.List.Folds.{list_all-append}
 use Rattle.std.proofs.lemmas.Bool.{and_parts}
 use mathlib.Core.Logic.{inl, inr}
-use Rattle.tow_model.specs.Tokens.{next_is, begins_piece, opens_brace, are_pieces}
-use Rattle.tow_model.proofs.Cut.{sigil}
+use Rattle.tow_language.specs.Tokens.{next_is, begins_piece, opens_brace, are_pieces}
+use Rattle.tow_language.proofs.Cut.{sigil}
 use Rattle.tow_print.proofs.Templates.{is_closed}
 use Rattle.tow_print.proofs.Words.{next_is_nil}
 

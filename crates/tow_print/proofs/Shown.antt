@@ -2,10 +2,10 @@
 use Rattle.std.specs.Prelude.{◌≡◌, ℕ, ◌+◌, List, [], ◌∷◌, ◌++◌, length, IsTrue}
 use Rattle.std.specs.List.{list_all}
 use Rattle.std.proofs.Common.{sym, ap, ◌∙◌, subst, append_assoc}
-use Rattle.tow_model.specs.declared.token.TokenKind.{TokenKind}
-use Rattle.tow_model.specs.Tokens.{IsToken, is_white}
-use Rattle.tow_model.specs.Symbols.{Symbol, sign_of, joined}
-use Rattle.tow_model.specs.Grammar.{Rest}
+use Rattle.tow_language.specs.declared.token.TokenKind.{TokenKind}
+use Rattle.tow_language.specs.Tokens.{IsToken, is_white}
+use Rattle.tow_language.specs.Symbols.{Symbol, sign_of, joined}
+use Rattle.tow_language.specs.Grammar.{Rest}
 
 -- from the place `at` on the bytes show the symbols, up to the place `end`, where `left` stands
 abbrev pub Show : ℕ → List ℕ → List Symbol → ℕ → List ℕ → Type 0

@@ -2,19 +2,19 @@
 use Rattle.std.specs.Prelude.{◌≡◌, ◌⊎◌, ℕ, ◌-◌, ◌<◌, Bool, true, false, List, [], ◌∷◌, ◌++◌, map, codes, None, Some, Ok}
 use Rattle.std.proofs.Common.{refl, sym, ap, ◌∙◌, arith, subst, append_assoc, append-nil}
 use mathlib.Core.Logic.{inl, inr}
-use Rattle.tow_model.specs.declared.token.TokenKind.TheVariants.{Newline, Semi}
+use Rattle.tow_language.specs.declared.token.TokenKind.TheVariants.{Newline, Semi}
 use Rattle.tow_model.specs.declared.action.Action.{Action}
 use Rattle.tow_model.specs.declared.action.Action.TheVariants as actions
 use Rattle.tow_model.specs.declared.predicate.Predicate.{Predicate}
 use Rattle.tow_model.specs.declared.statement.Statement.{Statement}
 use Rattle.tow_model.specs.declared.statement.Statement.TheVariants.{When, Act, Block}
-use Rattle.tow_model.specs.Symbols.{mark, Symbol}
-use Rattle.tow_model.specs.Raw.{RawCall, RawTarget, handler, restart, done, block, RawStatement, act, when, when_else, RawList, none, more}
-use Rattle.tow_model.specs.Grammar.{Rest, Mark, CallThen, SeparatorsThen, MaybeArrow, ends_in_brace, Between, TargetThen, StatementThen, ListThen}
-use Rattle.tow_model.specs.Levels.{TargetWithin, StatementWithin, ListWithin}
-use Rattle.tow_model.specs.Fit.{Counts, Fitted, ◌>>=◌, fit_action, fit_predicate, fit_target, fit_statement, fit_list}
-use Rattle.tow_model.specs.Printed.{printed_action, printed_statement, printed_block, joined_by}
-use Rattle.tow_model.proofs.Folds.{printed_at, of_act, of_block, of_when, of_else}
+use Rattle.tow_language.specs.Symbols.{mark, Symbol}
+use Rattle.tow_language.specs.Raw.{RawCall, RawTarget, handler, restart, done, block, RawStatement, act, when, when_else, RawList, none, more}
+use Rattle.tow_language.specs.Grammar.{Rest, Mark, CallThen, SeparatorsThen, MaybeArrow, ends_in_brace, Between, TargetThen, StatementThen, ListThen}
+use Rattle.tow_language.specs.Levels.{TargetWithin, StatementWithin, ListWithin}
+use Rattle.tow_language.specs.Fit.{Counts, Fitted, ◌>>=◌, fit_action, fit_predicate, fit_target, fit_statement, fit_list}
+use Rattle.tow_language.specs.Printed.{printed_action, printed_statement, printed_block, joined_by}
+use Rattle.tow_language.proofs.Folds.{printed_at, of_act, of_block, of_when, of_else}
 use Rattle.tow_print.proofs.Shown.{Shown, shown_then, shown_as}
 use Rattle.tow_print.proofs.Texts.{pieces_end, keyword_shown}
 use Rattle.tow_print.proofs.Marks.{semi_shown, open_brace_shown, close_brace_shown, arrow_shown, semi_ends}

@@ -13,8 +13,8 @@ use Rattle.tow_model.specs.declared.attribute.Attribute.{Attribute}
 use Rattle.tow_model.specs.declared.attribute.Attribute.TheVariants.{Method, RequestUrl, RelativePath, Query, Status, RequestLine, Protocol, RemoteIp, RemoteHost, Ident, User, Moment, Sent, SentOrDash, RequestField, ResponseField, Param, Cookie, Context}
 use Rattle.tow_model.specs.declared.attribute.Piece.{Piece}
 use Rattle.tow_model.specs.declared.attribute.Piece.TheVariants.{Literal, Value}
-use Rattle.tow_model.specs.Laws.{IsFormOf, Spells}
-use Rattle.tow_model.specs.Templates.{by_letter, by_word, by_kind, field_named, any_named, template_of, spelled_attribute, spelled_template}
+use Rattle.tow_language.specs.Laws.{IsFormOf, Spells}
+use Rattle.tow_language.specs.Templates.{by_letter, by_word, by_kind, field_named, any_named, template_of, spelled_attribute, spelled_template}
 use Rattle.tow_attr.proofs.Names.{is_named}
 use Rattle.tow_attr.proofs.Spelled.{templates_are_spelled}
 

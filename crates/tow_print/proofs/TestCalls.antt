@@ -1,20 +1,20 @@
 -- The test of a textual call is printed as a call that fits it again, and its printed form is UTF-8.
 use Rattle.std.specs.Prelude.{◌≡◌, ℕ, List, [], ◌∷◌, ◌++◌, map, length, Option, None, Some, Ok, IsUtf8}
 use Rattle.std.proofs.Common.{refl, sym, ap, ap₂, ◌∙◌, subst, length-append}
-use Rattle.tow_model.specs.declared.kind.Kind.TheVariants.{UnknownName}
+use Rattle.tow_language.specs.declared.kind.Kind.TheVariants.{UnknownName}
 use Rattle.tow_model.specs.declared.attribute.Piece.{Piece}
 use Rattle.tow_model.specs.declared.predicate.Test.{Test}
 use Rattle.tow_model.specs.declared.predicate.Test.TheVariants as tests
-use Rattle.tow_model.specs.declared.table.TestName.{TestName}
-use Rattle.tow_model.specs.declared.table.TestName.TheVariants as test_names
-use Rattle.tow_model.specs.declared.table.Given.{Given}
-use Rattle.tow_model.specs.declared.table.Given.TheVariants as givens
-use Rattle.tow_model.specs.declared.table.Shape.{Shape}
-use Rattle.tow_model.specs.declared.table.Shape.TheVariants as shapes
-use Rattle.tow_model.specs.Raw.{RawCall}
-use Rattle.tow_model.specs.Table.{the_path, test_named, test_parameters}
-use Rattle.tow_model.specs.Fit.{Counts, ◌>>=◌, wanted, givens_of, made_test, fit_test}
-use Rattle.tow_model.specs.Printed.{printed_text, printed_prefix, printed_template, printed_array, printed_match, written_template, printed_test}
+use Rattle.tow_language.specs.declared.table.TestName.{TestName}
+use Rattle.tow_language.specs.declared.table.TestName.TheVariants as test_names
+use Rattle.tow_language.specs.declared.table.Given.{Given}
+use Rattle.tow_language.specs.declared.table.Given.TheVariants as givens
+use Rattle.tow_language.specs.declared.table.Shape.{Shape}
+use Rattle.tow_language.specs.declared.table.Shape.TheVariants as shapes
+use Rattle.tow_language.specs.Raw.{RawCall}
+use Rattle.tow_language.specs.Table.{the_path, test_named, test_parameters}
+use Rattle.tow_language.specs.Fit.{Counts, ◌>>=◌, wanted, givens_of, made_test, fit_test}
+use Rattle.tow_language.specs.Printed.{printed_text, printed_prefix, printed_template, printed_array, printed_match, written_template, printed_test}
 use Rattle.tow_print.proofs.Predicates.{Same, TestReads, TestsRead, bind_ok, ok_pair}
 use Rattle.tow_print.proofs.Fits.{with_slash, spelled_match, true_reads, false_reads, path_reads, prefix_reads, suffix_reads, path_template_reads, regex_reads, method_reads, equals_reads, contains_reads, exists_reads}
 use Rattle.tow_print.proofs.Textual.{OfEach, TextualCall}

@@ -5,13 +5,13 @@ use Rattle.std.proofs.Common.{zero, suc, refl, sym, ap, ap₂, ◌∙◌, arith,
 use Rattle.std.proofs.Math.Seq.{take-append_seam}
 use Rattle.std.proofs.lemmas.Bool.{eqb-true}
 use mathlib.Core.Logic.{inl, inr}
-use Rattle.tow_model.specs.declared.token.TokenKind.{TokenKind}
-use Rattle.tow_model.specs.declared.token.TokenKind.TheVariants.{Quoted, Word}
-use Rattle.tow_model.specs.Tokens.{IsToken, IsWord, IsQuoted, is_white, next_is, begins_piece, opens_brace, are_pieces, no_piece, are_escaped, last_byte}
-use Rattle.tow_model.specs.Symbols.{Sign, word, quoted, Symbol, sign_of, unescaped, joined}
-use Rattle.tow_model.specs.Raw.{Written}
-use Rattle.tow_model.specs.Grammar.{Rest, Keyword, WordThen, TextThen}
-use Rattle.tow_model.specs.Printed.{is_word, printed_text}
+use Rattle.tow_language.specs.declared.token.TokenKind.{TokenKind}
+use Rattle.tow_language.specs.declared.token.TokenKind.TheVariants.{Quoted, Word}
+use Rattle.tow_language.specs.Tokens.{IsToken, IsWord, IsQuoted, is_white, next_is, begins_piece, opens_brace, are_pieces, no_piece, are_escaped, last_byte}
+use Rattle.tow_language.specs.Symbols.{Sign, word, quoted, Symbol, sign_of, unescaped, joined}
+use Rattle.tow_language.specs.Raw.{Written}
+use Rattle.tow_language.specs.Grammar.{Rest, Keyword, WordThen, TextThen}
+use Rattle.tow_language.specs.Printed.{is_word, printed_text}
 use Rattle.tow_print.specs.Words.{quoted_byte}
 use Rattle.tow_print.proofs.Shown.{Shown}
 

@@ -8,15 +8,15 @@ use Rattle.std.proofs.Math.Seq.{take-append_seam, drop-append_seam}
 use Rattle.std.proofs.lemmas.Bool.{and_parts}
 use Rattle.std.proofs.lemmas.Str.{IsUtf8-nil, IsUtf8-append}
 use mathlib.Core.Logic.{inl, inr}
-use Rattle.tow_model.specs.declared.token.Token.{Token}
-use Rattle.tow_model.specs.declared.token.TokenKind.{TokenKind}
-use Rattle.tow_model.specs.declared.token.TokenKind.TheVariants.{Newline, Semi, Comma, Equals, OpenRound, CloseRound, OpenSquare, CloseSquare, OpenBrace, CloseBrace, Arrow, Quoted, Word}
-use Rattle.tow_model.specs.Tokens.{is_white, next_is, begins_piece, opens_brace, are_pieces, last_byte, IsQuoted, IsWord, IsToken, CutsUpTo}
-use Rattle.tow_model.specs.Symbols.{Sign, word, quoted, mark, Symbol, unescaped, sign_of, open_after, symbols_of, joined}
-use Rattle.tow_model.specs.Raw.{Written, RawValue, one, array, RawParameters, unnamed, named, RawCall, RawPredicate, alone, or_more, RawConjunction, single, and_more, RawFactor, test, negated, grouped, RawTarget, handler, restart, done, block, RawStatement, act, when, when_else, RawList, none, more}
-use Rattle.tow_model.specs.Grammar.{Rest, AtEnd, Next, Mark, Keyword, Placed, TextThen, Commas, ValueThen, PairThen, ParametersThen, BracketsThen, CallThen, PredicateThen, ConjunctionThen, FactorThen, SeparatorsThen, MaybeArrow, ends_in_brace, Between, TargetThen, StatementThen, ListThen}
-use Rattle.tow_model.specs.Syntax.{Reads}
-use Rattle.tow_model.proofs.Cut.{quote_is}
+use Rattle.tow_language.specs.declared.token.Token.{Token}
+use Rattle.tow_language.specs.declared.token.TokenKind.{TokenKind}
+use Rattle.tow_language.specs.declared.token.TokenKind.TheVariants.{Newline, Semi, Comma, Equals, OpenRound, CloseRound, OpenSquare, CloseSquare, OpenBrace, CloseBrace, Arrow, Quoted, Word}
+use Rattle.tow_language.specs.Tokens.{is_white, next_is, begins_piece, opens_brace, are_pieces, last_byte, IsQuoted, IsWord, IsToken, CutsUpTo}
+use Rattle.tow_language.specs.Symbols.{Sign, word, quoted, mark, Symbol, unescaped, sign_of, open_after, symbols_of, joined}
+use Rattle.tow_language.specs.Raw.{Written, RawValue, one, array, RawParameters, unnamed, named, RawCall, RawPredicate, alone, or_more, RawConjunction, single, and_more, RawFactor, test, negated, grouped, RawTarget, handler, restart, done, block, RawStatement, act, when, when_else, RawList, none, more}
+use Rattle.tow_language.specs.Grammar.{Rest, AtEnd, Next, Mark, Keyword, Placed, TextThen, Commas, ValueThen, PairThen, ParametersThen, BracketsThen, CallThen, PredicateThen, ConjunctionThen, FactorThen, SeparatorsThen, MaybeArrow, ends_in_brace, Between, TargetThen, StatementThen, ListThen}
+use Rattle.tow_language.specs.Syntax.{Reads}
+use Rattle.tow_language.proofs.Cut.{quote_is}
 use Rattle.tow_print.proofs.Predicates.{OfPredicate, OfConjunction, OfFactor}
 use Rattle.tow_print.proofs.Statements.{OfTarget, OfStatement, OfList}
 use Rattle.tow_print.proofs.Texts.{IsFine}

@@ -11,8 +11,8 @@ use Rattle.std.proofs.lemmas.Str.{IsUtf8-nil, IsUtf8-append, IsUtf8-encode, IsUt
 use mathlib.Core.Logic.{inl, inr}
 use lib.Utf8.{scalars, encode, encodes, low_scalar}
 use Rattle.http_header.specs.Token.{lowercase}
-use Rattle.tow_model.specs.Tokens.{next_is}
-use Rattle.tow_model.specs.Symbols.{unescaped}
+use Rattle.tow_language.specs.Tokens.{next_is}
+use Rattle.tow_language.specs.Symbols.{unescaped}
 
 -- an ASCII byte before a text
 pub utf8_cons : (b : ℕ) (bs : List ℕ) → b < 128 → IsUtf8 bs → IsUtf8 (b ∷ bs)

@@ -6,16 +6,16 @@ use Rattle.std.proofs.Common.{refl, sym, ap, ap₂, arith, rules, subst}
 use Rattle.std.proofs.lemmas.Bool.{eqb-true, and_parts}
 use Rattle.std.proofs.lemmas.Str.{IsUtf8-nil, IsUtf8-append}
 use mathlib.Core.Logic.{inl, inr}
-use Rattle.tow_model.specs.declared.table.TestName.{TestName}
-use Rattle.tow_model.specs.declared.table.TestName.TheVariants as tests
-use Rattle.tow_model.specs.declared.table.Handler.{Handler}
-use Rattle.tow_model.specs.declared.table.Handler.TheVariants as handlers
+use Rattle.tow_language.specs.declared.table.TestName.{TestName}
+use Rattle.tow_language.specs.declared.table.TestName.TheVariants as tests
+use Rattle.tow_language.specs.declared.table.Handler.{Handler}
+use Rattle.tow_language.specs.declared.table.Handler.TheVariants as handlers
 use Rattle.tow_model.specs.Texts.{begins_with}
-use Rattle.tow_model.specs.Tokens.{last_byte}
+use Rattle.tow_language.specs.Tokens.{last_byte}
 use Rattle.tow_model.specs.Paths.{rooted}
-use Rattle.tow_model.specs.Shapes.{without_last_slashes, prefix_of}
-use Rattle.tow_model.specs.Table.{Parameter, test_name, test_parameters, handler_name, handler_parameters}
-use Rattle.tow_model.specs.Printed.{is_word, joined_by, printed_text, printed_prefix, printed_array, printed_truth, printed_pairs, printed_call}
+use Rattle.tow_language.specs.Shapes.{without_last_slashes, prefix_of}
+use Rattle.tow_language.specs.Table.{Parameter, test_name, test_parameters, handler_name, handler_parameters}
+use Rattle.tow_language.specs.Printed.{is_word, joined_by, printed_text, printed_prefix, printed_array, printed_truth, printed_pairs, printed_call}
 use Rattle.tow_print.specs.Words.{quoted_byte}
 use Rattle.tow_print.proofs.Fits.{with_slash}
 use Rattle.tow_print.proofs.Textual.{OfEach}

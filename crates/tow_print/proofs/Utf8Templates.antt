@@ -13,9 +13,9 @@ use Rattle.tow_model.specs.declared.attribute.Attribute.{Attribute}
 use Rattle.tow_model.specs.declared.attribute.Attribute.TheVariants.{Method, RequestUrl, RelativePath, Query, Status, RequestLine, Protocol, RemoteIp, RemoteHost, User, Moment, Sent, RequestField, ResponseField, Param, Cookie, Context}
 use Rattle.tow_model.specs.declared.attribute.Piece.{Piece}
 use Rattle.tow_model.specs.declared.attribute.Piece.TheVariants.{Literal, Value}
-use Rattle.tow_model.specs.Templates.{by_letter, by_word, field_named, any_named, by_kind, template_of, spelled_attribute, spelled_piece, spelled_template, long_word, long_form, spelled_long, common, combined}
-use Rattle.tow_model.specs.Laws.{IsFormOf, IsNoLiteral, Spells}
-use Rattle.tow_model.specs.Printed.{is_unquotable, written_template, printed_template}
+use Rattle.tow_language.specs.Templates.{by_letter, by_word, field_named, any_named, by_kind, template_of, spelled_attribute, spelled_piece, spelled_template, long_word, long_form, spelled_long, common, combined}
+use Rattle.tow_language.specs.Laws.{IsFormOf, IsNoLiteral, Spells}
+use Rattle.tow_language.specs.Printed.{is_unquotable, written_template, printed_template}
 use Rattle.tow_attr.proofs.Spelled.{templates_are_spelled}
 use Rattle.tow_print.proofs.Textual.{OfEach}
 use Rattle.tow_print.proofs.Utf8.{utf8_ascii, utf8_before, utf8_from, utf8_behind, utf8_behind_ascii, utf8_lowercase}

@@ -9,10 +9,10 @@ use Rattle.tow_model.specs.declared.predicate.Predicate.{Predicate}
 use Rattle.tow_model.specs.declared.predicate.Predicate.TheVariants.{Is, Not, And, Or}
 use Rattle.tow_model.specs.declared.statement.Statement.{Statement}
 use Rattle.tow_model.specs.declared.statement.Statement.TheVariants.{When, Act, Block}
-use Rattle.tow_model.specs.Raw.{RawCall, RawPredicate, alone, or_more, RawConjunction, single, and_more, RawFactor, test, negated, grouped, RawTarget, handler, restart, done, block, RawStatement, act, when, when_else, RawList, none, more}
-use Rattle.tow_model.specs.Fit.{Counts, Fitted, ◌>>=◌, fit_test, fit_action, fit_predicate, fit_or, fit_conjunction, fit_and, fit_factor, fit_target, fit_statement, fit_list}
-use Rattle.tow_model.specs.Printed.{joined_by, in_parentheses, printed_test, printed_action, printed_block, printed_statement, print_of}
-use Rattle.tow_model.proofs.Folds.{printed_at, at_is, at_not, at_and, at_or, of_act, of_block, of_when, of_else}
+use Rattle.tow_language.specs.Raw.{RawCall, RawPredicate, alone, or_more, RawConjunction, single, and_more, RawFactor, test, negated, grouped, RawTarget, handler, restart, done, block, RawStatement, act, when, when_else, RawList, none, more}
+use Rattle.tow_language.specs.Fit.{Counts, Fitted, ◌>>=◌, fit_test, fit_action, fit_predicate, fit_or, fit_conjunction, fit_and, fit_factor, fit_target, fit_statement, fit_list}
+use Rattle.tow_language.specs.Printed.{joined_by, in_parentheses, printed_test, printed_action, printed_block, printed_statement, print_of}
+use Rattle.tow_language.proofs.Folds.{printed_at, at_is, at_not, at_and, at_or, of_act, of_block, of_when, of_else}
 use Rattle.tow_print.proofs.Predicates.{OfPredicate, OfConjunction, OfFactor, bind_ok, ok_pair}
 use Rattle.tow_print.proofs.Statements.{OfTarget, OfStatement, OfList}
 use Rattle.tow_print.proofs.Textual.{OfEach}

@@ -3,10 +3,10 @@ use Rattle.std.specs.Prelude.{◌≡◌, ℕ, ◌+◌, true, false, List, [], �
 use Rattle.std.specs.List.{list_all}
 use Rattle.std.proofs.Common.{refl, sym, ap, ◌∙◌, arith, subst, append_assoc}
 use mathlib.Core.Logic.{inl, inr}
-use Rattle.tow_model.specs.Tokens.{is_white}
-use Rattle.tow_model.specs.Raw.{Written, RawValue, one, array, unnamed, named, RawCall}
-use Rattle.tow_model.specs.Grammar.{WordThen, TextThen, Commas, ValueThen, PairThen, BracketsThen, is_reserved, CallThen}
-use Rattle.tow_model.specs.Printed.{is_word, printed_text, joined_by, printed_array}
+use Rattle.tow_language.specs.Tokens.{is_white}
+use Rattle.tow_language.specs.Raw.{Written, RawValue, one, array, unnamed, named, RawCall}
+use Rattle.tow_language.specs.Grammar.{WordThen, TextThen, Commas, ValueThen, PairThen, BracketsThen, is_reserved, CallThen}
+use Rattle.tow_language.specs.Printed.{is_word, printed_text, joined_by, printed_array}
 use Rattle.tow_print.proofs.Marks.{comma_shown, equals_shown, placed_brace_shown, close_brace_shown, comma_ends, brace_ends}
 use Rattle.tow_print.proofs.Predicates.{open_shown, close_shown, round_ends}
 use Rattle.tow_print.proofs.Shown.{Shown, shown_then, shown_as}

@@ -2,15 +2,15 @@
 use Rattle.std.specs.Prelude.{◌≡◌, ℕ, ◌+◌, ◌≤◌, List, [], ◌∷◌, ◌++◌, length, Ok, IsUtf8}
 use Rattle.std.proofs.Common.{refl, sym, ap, ◌∙◌, subst, append_assoc}
 use mathlib.Core.Logic.{inl, inr}
-use Rattle.tow_model.specs.declared.token.TokenKind.TheVariants.{Newline}
+use Rattle.tow_language.specs.declared.token.TokenKind.TheVariants.{Newline}
 use Rattle.tow_model.specs.declared.statement.Statement.{Statement}
-use Rattle.tow_model.specs.Symbols.{mark, Symbol, joined}
-use Rattle.tow_model.specs.Raw.{RawCall, RawStatement, RawList, none, more}
-use Rattle.tow_model.specs.Grammar.{AtEnd, SeparatorsThen, ends_in_brace, Between, StatementThen, ListThen}
-use Rattle.tow_model.specs.Levels.{ListWithin}
-use Rattle.tow_model.specs.Fit.{Counts, ◌>>=◌, fit_statement, fit_list, no_counts}
-use Rattle.tow_model.specs.Fault.{IsTreeOf}
-use Rattle.tow_model.specs.Printed.{printed_statement, print_of}
+use Rattle.tow_language.specs.Symbols.{mark, Symbol, joined}
+use Rattle.tow_language.specs.Raw.{RawCall, RawStatement, RawList, none, more}
+use Rattle.tow_language.specs.Grammar.{AtEnd, SeparatorsThen, ends_in_brace, Between, StatementThen, ListThen}
+use Rattle.tow_language.specs.Levels.{ListWithin}
+use Rattle.tow_language.specs.Fit.{Counts, ◌>>=◌, fit_statement, fit_list, no_counts}
+use Rattle.tow_language.specs.Fault.{IsTreeOf}
+use Rattle.tow_language.specs.Printed.{printed_statement, print_of}
 use Rattle.tow_print.proofs.Cuts.{show_cuts}
 use Rattle.tow_print.proofs.Marks.{line_ends}
 use Rattle.tow_print.proofs.Predicates.{Same, TestsRead, bind_ok, bind_is, ok_pair}

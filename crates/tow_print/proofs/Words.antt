@@ -1,9 +1,9 @@
 -- Bytes that may be one Word, a byte at a time; and bytes in a style.
 use Rattle.std.proofs.Common.{◌≡◌, ℕ, suc, drop, ◌-◌, ◌<◌, List, [], ◌∷◌, ◌++◌, length, get_or, flat_map, map, codes, refl, sym, ap, ◌∙◌, arith, append_assoc, append-nil, map-id}
 use Rattle.std.proofs.lemmas.Grind.{flat_map-append}
-use Rattle.tow_model.specs.Tokens.{next_is, last_byte}
+use Rattle.tow_language.specs.Tokens.{next_is, last_byte}
 use Rattle.std.specs.List.{join_with_byte}
-use Rattle.tow_model.specs.Printed.{joined_by, printed_block}
+use Rattle.tow_language.specs.Printed.{joined_by, printed_block}
 use Rattle.tow_print.specs.Parts.{parts_behind, before_part}
 use Rattle.tow_print.specs.declared.printer.style.Style.{Style}
 use Rattle.tow_print.specs.declared.printer.style.Style.TheVariants.{Bare, Quoted}

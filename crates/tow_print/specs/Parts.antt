@@ -1,8 +1,8 @@
 -- The parts of a tree in the printed form, as the code takes them.
 use Rattle.std.specs.Prelude.{ℕ, List, [], ◌∷◌, ◌++◌, flat_map, codes}
 use Rattle.tow_model.specs.declared.predicate.Predicate.{Predicate, fold-Predicate}
-use Rattle.tow_model.specs.Printed.{predicate_by}
-use Rattle.tow_model.specs.Templates.{spelled_template}
+use Rattle.tow_language.specs.Printed.{predicate_by}
+use Rattle.tow_language.specs.Templates.{spelled_template}
 use Rattle.tow_print.specs.declared.printer.forms.Form.{Form}
 use Rattle.tow_print.specs.declared.printer.long_forms.LongTemplate.{LongTemplate}
 use Rattle.tow_print.specs.declared.printer.predicates.Site.{Site}

@@ -1,7 +1,7 @@
 -- What bytes are still to come for a text to be printed as a Word, and how a text stands in the printed form.
 use Rattle.std.specs.Prelude.{ℕ, Bool, true, false, not, ◌&&◌, ◌==◌, List, [], ◌∷◌, flat_map, codes, if◌then◌else◌}
-use Rattle.tow_model.specs.Tokens.{are_pieces, next_is}
-use Rattle.tow_model.specs.Printed.{is_word}
+use Rattle.tow_language.specs.Tokens.{are_pieces, next_is}
+use Rattle.tow_language.specs.Printed.{is_word}
 use Rattle.tow_print.specs.declared.printer.spelling.Spelling.{Spelling}
 use Rattle.tow_print.specs.declared.printer.spelling.Spelling.TheVariants.{Empty, Plain, Dash, Sign, Inside, Broken}
 use Rattle.tow_print.specs.declared.printer.style.Style.{Style}

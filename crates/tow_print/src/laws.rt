@@ -2,8 +2,8 @@
 
 ghost use Rattle.std.specs.Prelude.{◌≡◌, ℕ, List, Ok};
 ghost use Rattle.tow_model.specs.declared.attribute.Piece.{Piece};
-ghost use Rattle.tow_model.specs.Laws.{PrintReadsBack};
-ghost use Rattle.tow_model.specs.Templates.{template_of, spelled_template};
+ghost use Rattle.tow_language.specs.Laws.{PrintReadsBack};
+ghost use Rattle.tow_language.specs.Templates.{template_of, spelled_template};
 
 /// The printed spelling of a template that some text has reads back as the template.
 pub fn templates_read_back()

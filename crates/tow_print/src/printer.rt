@@ -1,7 +1,7 @@
 //! The printed form of a tree. Each function appends to one growing list of bytes, and no text is built before it is
 //! appended.
 ghost use Rattle.std.specs.Prelude.{◌≡◌, IfOk};
-ghost use Rattle.tow_model.specs.Printed.{print_of};
+ghost use Rattle.tow_language.specs.Printed.{print_of};
 
 mod actions;
 mod calls;

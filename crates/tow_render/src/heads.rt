@@ -1,6 +1,6 @@
 ghost use Rattle.std.specs.Prelude.{◌≡◌, ◌++◌, IfOk, OnOk, codes, decimal, flat_map};
-ghost use Rattle.tow_model.specs.Answers.{field_line, head_text};
-ghost use Rattle.tow_model.specs.Reasons.{reason_of};
+ghost use Rattle.tow_wire.specs.Answers.{field_line, head_text};
+ghost use Rattle.tow_wire.specs.Reasons.{reason_of};
 
 use crate::reasons::reason;
 use itoa::Buffer;

@@ -1,5 +1,5 @@
 ghost use Rattle.std.specs.Prelude.{◌≡◌};
-ghost use Rattle.tow_model.specs.Reasons.{reason_of};
+ghost use Rattle.tow_wire.specs.Reasons.{reason_of};
 
 /// The reason of a status (RFC 9110, section 15), empty where it has none. Takes no memory.
 pub fn reason(status: u16) -> &'static [u8]

@@ -7,8 +7,8 @@ use Rattle.httparse.specs.declared.spans.HeaderSpan.{HeaderSpan}
 use Rattle.httparse.specs.declared.spans.RequestSpans.{RequestSpans}
 use Rattle.httparse.proofs.GrammarLemmas.{ReadsRequest-append}
 use Rattle.tow_model.specs.declared.request.Request.{Request}
-use Rattle.tow_model.specs.Heads.{HasHead, HasNoHead, IsRefusedBy, refusal, request_of}
-use Rattle.tow_model.proofs.FirstHeads.{head_is_one}
+use Rattle.tow_message.specs.Heads.{HasHead, HasNoHead, IsRefusedBy, refusal, request_of}
+use Rattle.tow_message.proofs.FirstHeads.{head_is_one}
 use Rattle.tow_request.specs.declared.NextHead.{NextHead}
 use Rattle.tow_request.specs.declared.NextHead.TheVariants.{Head}
 use Rattle.tow_request.specs.NextHead.{FindsHead}

@@ -8,7 +8,7 @@ use Rattle.std.specs.Str.Parse.{digits_value}
 use Rattle.tow_model.specs.declared.request.Field.{Field}
 use Rattle.tow_model.specs.Texts.{Text, is_empty}
 use Rattle.tow_model.specs.Fields.{values_of}
-use Rattle.tow_model.specs.Heads.{has_wrong_length, is_no_length, is_number}
+use Rattle.tow_message.specs.Heads.{has_wrong_length, is_no_length, is_number}
 use Rattle.tow_model.proofs.Resolving.{neither}
 use Rattle.tow_request.specs.Lines.{only}
 use Rattle.tow_request.proofs.Deciding.{both, opposite_of}

@@ -10,7 +10,7 @@ use Rattle.tow_model.specs.declared.request.Version.{Version}
 use Rattle.tow_model.specs.Texts.{Text}
 use Rattle.tow_model.specs.Fields.{values_of, elements}
 use Rattle.tow_model.specs.Paths.{Place, place_of}
-use Rattle.tow_model.specs.Heads.{fields_of, has_wrong_host, has_wrong_target, has_wrong_length, has_wrong_coding, is_coded, refusal, framing_of, expects_by, keeps, request_of}
+use Rattle.tow_message.specs.Heads.{fields_of, has_wrong_host, has_wrong_target, has_wrong_length, has_wrong_coding, is_coded, refusal, framing_of, expects_by, keeps, request_of}
 use Rattle.tow_request.specs.Lines.{fields_at}
 use Rattle.tow_request.specs.Refusals.{wrong_fields, version_by}
 use Rattle.tow_request.proofs.Spans.{same_fields}

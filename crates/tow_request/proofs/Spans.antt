@@ -6,7 +6,7 @@ use Rattle.httparse.specs.declared.spans.HeaderSpan.{HeaderSpan}
 use Rattle.httparse.specs.declared.spans.RequestSpans.{RequestSpans}
 use Rattle.tow_model.specs.declared.request.Field.{Field}
 use Rattle.tow_model.specs.Fields.{field}
-use Rattle.tow_model.specs.Heads.{fields_of}
+use Rattle.tow_message.specs.Heads.{fields_of}
 use Rattle.tow_request.specs.Lines.{field_at, fields_at}
 
 abbrev field_from : List ℕ × List ℕ → Field

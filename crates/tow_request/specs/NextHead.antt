@@ -3,8 +3,8 @@ use Rattle.std.specs.Prelude.{◌≡◌, ℕ, ◌<◌, ◌≤◌, ◌⊎◌, Boo
 use Rattle.httparse.specs.Grammar.{MayBecomeRequest, NeverHasRequest}
 use Rattle.httparse.specs.Spans.{RequestExceeds}
 use Rattle.tow_model.specs.declared.request.Request.{Request}
-use Rattle.tow_model.specs.Heads.{Head as IsHead, HasNoHead, IsRefusedBy, refusal}
-use Rattle.tow_model.specs.Stream.{IsBlank, IsNoRequest}
+use Rattle.tow_message.specs.Heads.{Head as IsHead, HasNoHead, IsRefusedBy, refusal}
+use Rattle.tow_message.specs.Stream.{IsBlank, IsNoRequest}
 use Rattle.tow_request.specs.declared.NextHead.{NextHead}
 use Rattle.tow_request.specs.declared.NextHead.TheVariants.{Head, Partial, Nothing, Refuse, NoMemory}
 

@@ -5,7 +5,7 @@ use Rattle.tow_model.specs.declared.request.Version.{Version}
 use Rattle.tow_model.specs.declared.request.Version.TheVariants.{V10, V11}
 use Rattle.tow_model.specs.Texts.{Text}
 use Rattle.tow_model.specs.Fields.{values_of, has}
-use Rattle.tow_model.specs.Heads.{has_wrong_length, codings_of, ends_in_chunked}
+use Rattle.tow_message.specs.Heads.{has_wrong_length, codings_of, ends_in_chunked}
 use Rattle.tow_model.specs.Paths as paths
 use Rattle.tow_request.specs.declared.requests.Place.{Place}
 use Rattle.tow_request.specs.declared.codings.Codings.{Codings}

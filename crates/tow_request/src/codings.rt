@@ -5,7 +5,7 @@ ghost use Rattle.http_header.specs.Token.{lowercase};
 ghost use Rattle.httparse.specs.Spans.{IsHeaderWithin};
 ghost use Rattle.tow_model.specs.Texts.{Text, is_empty};
 ghost use Rattle.tow_model.specs.Fields.{elements};
-ghost use Rattle.tow_model.specs.Heads.{codings_of};
+ghost use Rattle.tow_message.specs.Heads.{codings_of};
 ghost use Rattle.tow_request.specs.Lines.{elements_in, field_at, fields_at};
 ghost use Rattle.tow_request.specs.Refusals.{Sums};
 

@@ -5,7 +5,7 @@ ghost use Rattle.std.specs.Char.{digit_value, is_ascii_digit};
 ghost use Rattle.std.specs.Str.Parse.{digits_value};
 ghost use Rattle.httparse.specs.Spans.{IsHeaderWithin};
 ghost use Rattle.tow_model.specs.Fields.{values_of};
-ghost use Rattle.tow_model.specs.Heads as heads;
+ghost use Rattle.tow_message.specs.Heads as heads;
 ghost use Rattle.tow_request.specs.Lines.{fields_at};
 
 use crate::fields::{has_named, only_named};

@@ -3,7 +3,7 @@
 ghost use Rattle.std.specs.Prelude.{◌≡◌, ◌≤◌, ◌⊎◌, ◌↔◌, ℕ, Bool, IsTrue, length};
 ghost use Rattle.httparse.specs.Grammar.{MayBecomeRequest};
 ghost use Rattle.httparse.specs.Spans.{IsRequestOf, IsRequestWithin, RequestExceeds};
-ghost use Rattle.tow_model.specs.Stream.{IsBlank, IsNoRequest};
+ghost use Rattle.tow_message.specs.Stream.{IsBlank, IsNoRequest};
 ghost use Rattle.tow_request.specs.NextHead.{FindsHead, Tells};
 
 use crate::NextHead;

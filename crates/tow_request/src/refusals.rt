@@ -4,7 +4,7 @@ ghost use Rattle.std.specs.Prelude.{◌≡◌, ◌≤◌, All, codes, length, na
 ghost use Rattle.httparse.specs.Grammar.{RequestHead};
 ghost use Rattle.httparse.specs.Spans.{IsHeaderWithin, IsRequestAt, IsRequestWithin};
 ghost use Rattle.tow_model.specs.Fields.{values_of};
-ghost use Rattle.tow_model.specs.Heads as heads;
+ghost use Rattle.tow_message.specs.Heads as heads;
 ghost use Rattle.tow_request.specs.Lines.{fields_at};
 ghost use Rattle.tow_request.specs.Refusals as model;
 

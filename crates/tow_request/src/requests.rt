@@ -4,8 +4,8 @@ ghost use Rattle.std.specs.Prelude.{◌≡◌, All, IfOk, Some, codes, false, le
 ghost use Rattle.httparse.specs.Grammar.{RequestHead};
 ghost use Rattle.httparse.specs.Spans.{IsHeaderWithin, IsRequestAt, IsRequestWithin};
 ghost use Rattle.tow_model.specs.Fields.{elements, values_of};
-ghost use Rattle.tow_model.specs.Heads as heads;
-ghost use Rattle.tow_model.specs.Heads.{fields_of, has_wrong_length, request_of};
+ghost use Rattle.tow_message.specs.Heads as heads;
+ghost use Rattle.tow_message.specs.Heads.{fields_of, has_wrong_length, request_of};
 ghost use Rattle.tow_model.specs.Paths.{place_of};
 ghost use Rattle.tow_request.specs.Lines.{fields_at};
 ghost use Rattle.tow_request.specs.Refusals as model;

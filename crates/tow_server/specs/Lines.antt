@@ -1,8 +1,8 @@
 -- The lines that the commands print.
 use Rattle.std.specs.Prelude.{◌≡◌, ◌⊎◌, ℕ, Bool, false, List, [], ◌++◌, codes, decimal}
-use Rattle.tow_model.specs.declared.kind.Kind.{Kind}
-use Rattle.tow_model.specs.declared.kind.Kind.TheVariants.{TooLong, UnclosedQuote, UnclosedBrace, StrayByte, Unexpected, TooDeep, UnknownName, BadParameter, BadAttribute, BadTarget, TooManyLimits, BadPattern, LargePattern}
-use Rattle.tow_model.specs.Fault.{IsFault, line_of, column_of}
+use Rattle.tow_language.specs.declared.kind.Kind.{Kind}
+use Rattle.tow_language.specs.declared.kind.Kind.TheVariants.{TooLong, UnclosedQuote, UnclosedBrace, StrayByte, Unexpected, TooDeep, UnknownName, BadParameter, BadAttribute, BadTarget, TooManyLimits, BadPattern, LargePattern}
+use Rattle.tow_language.specs.Fault.{IsFault, line_of, column_of}
 use Rattle.tow_site.specs.Compiled.{SiteData, IsSiteOf, IsFaultAtPattern}
 use Rattle.tow_site.specs.declared.fault.Fault.{Fault}
 use Rattle.tow_site.specs.declared.fault.Fault.TheVariants.{Text, NoMemory}

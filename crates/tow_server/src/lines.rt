@@ -3,7 +3,7 @@ ghost use Rattle.tow_server.specs.Lines as model;
 
 use itoa::Buffer;
 use std::alloc::{AllocError, Global};
-use tow_model::Kind;
+use tow_language::Kind;
 
 /// The line for a text that compiles and uses what is not built yet.
 pub const UNBUILT: &[u8] = b"1:1: Unbuilt\n";

@@ -3,10 +3,10 @@ use Rattle.std.proofs.Common.{ℕ, true, false, List, [], ap, ◌∙◌}
 use Rattle.tow_model.specs.declared.record.Record.{Record}
 use Rattle.tow_model.specs.declared.request.Request.{Request}
 use Rattle.tow_model.specs.declared.statement.Statement.{Statement}
-use Rattle.tow_model.specs.Outcome.{decided, opening}
-use Rattle.tow_model.specs.Sites.{walked_of}
-use Rattle.tow_model.specs.Steps.{start}
-use Rattle.tow_model.specs.Plans.{Stand}
+use Rattle.tow_semantics.specs.Outcome.{decided, opening}
+use Rattle.tow_semantics.specs.Sites.{walked_of}
+use Rattle.tow_semantics.specs.Steps.{start}
+use Rattle.tow_semantics.specs.Plans.{Stand}
 use Rattle.tow_site.specs.declared.outcomes.Answerer.TheVariants.{Text, DefaultHandler}
 use Rattle.tow_site.specs.Decided.{Decides}
 use Rattle.tow_site.specs.Walking.{Leads, Defaults}

@@ -3,10 +3,10 @@ use Rattle.std.proofs.Common.{◌≡◌, inl, inr, ℕ, ◌<◌, List, All, Opti
 use Rattle.std.specs.Prelude.{slice_index}
 use Rattle.std.proofs.lemmas.List.{length-map}
 use Rattle.std.proofs.lemmas.Option.{slice_get-get_or, slice_get_within}
-use Rattle.tow_model.specs.declared.kind.Kind.{Kind}
-use Rattle.tow_model.specs.declared.kind.Kind.TheVariants as kinds
+use Rattle.tow_language.specs.declared.kind.Kind.{Kind}
+use Rattle.tow_language.specs.declared.kind.Kind.TheVariants as kinds
 use Rattle.tow_model.specs.declared.statement.Statement.{Statement}
-use Rattle.tow_model.specs.Patterns.{IsGoodPattern}
+use Rattle.tow_pattern.specs.Patterns.{IsGoodPattern}
 use Rattle.tow_pred.specs.Faults as tests
 use Rattle.tow_pred.specs.Numbering.{IsNumbered, tree_patterns}
 use Rattle.tow_pred.specs.declared.fault.PatternFault.{PatternFault}

@@ -3,11 +3,11 @@ use Rattle.std.proofs.Common.{◌≡◌, ℕ, zero, suc, List, [], refl, ap, ◌
 use Rattle.tow_model.specs.declared.record.Record.{Record}
 use Rattle.tow_model.specs.declared.request.Request.{Request}
 use Rattle.tow_model.specs.declared.statement.Statement.{Statement}
-use Rattle.tow_model.specs.Steps.{answered}
-use Rattle.tow_model.specs.Sites.{given}
-use Rattle.tow_model.specs.Plans.{Stand, moved, without_context}
-use Rattle.tow_model.specs.Walk.{Given, Notes, walk}
-use Rattle.tow_model.specs.Outcome.{Outcome, decided, after_walk, walks}
+use Rattle.tow_semantics.specs.Steps.{answered}
+use Rattle.tow_semantics.specs.Sites.{given}
+use Rattle.tow_semantics.specs.Plans.{Stand, moved, without_context}
+use Rattle.tow_semantics.specs.Walk.{Given, Notes, walk}
+use Rattle.tow_semantics.specs.Outcome.{Outcome, decided, after_walk, walks}
 use Rattle.tow_site.specs.declared.outcomes.Answerer.TheVariants.{Text, DefaultHandler}
 use Rattle.tow_site.specs.declared.outcomes.Answerer.{Answerer}
 use Rattle.tow_site.specs.declared.walk.Walked.TheVariants.{Next, Stopped, ToDefault, Restarted}

@@ -1,7 +1,7 @@
 -- The fault of a text, with its line and column.
 use Rattle.std.proofs.Common.{◌≡◌, ℕ, List, inl, refl, sym, subst}
-use Rattle.tow_model.specs.declared.kind.Kind.{Kind}
-use Rattle.tow_model.specs.Fault.{IsFault}
+use Rattle.tow_language.specs.declared.kind.Kind.{Kind}
+use Rattle.tow_language.specs.Fault.{IsFault}
 use Rattle.tow_site.specs.declared.fault.Fault.{Fault}
 use Rattle.tow_site.specs.declared.fault.Fault.TheVariants.{Text, NoMemory}
 use Rattle.tow_site.specs.Compiled.{fault_of, IsFaultOfText, IsTreeFault}

@@ -1,12 +1,12 @@
 -- A text has at most one site, and none where it has a fault.
 use Rattle.std.proofs.Common.{◌≡◌, ◌≤◌, inl, inr, ℕ, length, List, All, Some, Ok, slice_get, sym, ap, ap₂, ◌∙◌, subst}
 use Rattle.std.proofs.lemmas.Option.{get_or_from_slice_get, slice_get_within}
-use Rattle.tow_model.specs.declared.kind.Kind.{Kind}
+use Rattle.tow_language.specs.declared.kind.Kind.{Kind}
 use Rattle.tow_model.specs.declared.statement.Statement.{Statement}
-use Rattle.tow_model.specs.Fit.{Counts, Fitted, fit}
-use Rattle.tow_model.specs.Fault.{IsFault}
-use Rattle.tow_model.proofs.Kept.{is_one_derivation, is_no_tree_at_fault}
-use Rattle.tow_model.specs.Patterns.{IsGoodPattern}
+use Rattle.tow_language.specs.Fit.{Counts, Fitted, fit}
+use Rattle.tow_language.specs.Fault.{IsFault}
+use Rattle.tow_language.proofs.Kept.{is_one_derivation, is_no_tree_at_fault}
+use Rattle.tow_pattern.specs.Patterns.{IsGoodPattern}
 use Rattle.tow_link.specs.Data.{Rose}
 use Rattle.tow_site.specs.Compiled.{SiteData, HasTree, IsSiteOf, IsFaultAtPattern, IsRefused, pattern_texts}
 

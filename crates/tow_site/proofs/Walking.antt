@@ -6,11 +6,11 @@ use Rattle.tow_model.specs.declared.action.Action.{Action}
 use Rattle.tow_model.specs.declared.predicate.Predicate.{Predicate}
 use Rattle.tow_model.specs.declared.statement.Statement.{Statement}
 use Rattle.tow_model.specs.declared.statement.Statement.TheVariants as st
-use Rattle.tow_model.specs.Plans.{Stand, moved}
-use Rattle.tow_model.specs.Predicates.{Held, holds_of}
-use Rattle.tow_model.specs.Sites.{given}
-use Rattle.tow_model.specs.Walk.{Notes, Answer, and_then, walk_other, walk_one, walk}
-use Rattle.tow_model.proofs.Equations.{walk_when, walk_when_else, walk_act, walk_block}
+use Rattle.tow_semantics.specs.Plans.{Stand, moved}
+use Rattle.tow_semantics.specs.Predicates.{Held, holds_of}
+use Rattle.tow_semantics.specs.Sites.{given}
+use Rattle.tow_semantics.specs.Walk.{Notes, Answer, and_then, walk_other, walk_one, walk}
+use Rattle.tow_semantics.proofs.Equations.{walk_when, walk_when_else, walk_act, walk_block}
 use Rattle.tow_site.specs.declared.walk.Walked.{Walked}
 use Rattle.tow_site.specs.declared.walk.Walked.TheVariants.{Next, Stopped, ToDefault, Restarted}
 use Rattle.tow_site.specs.Walking.{at, Acts, Walks, WalksAll}

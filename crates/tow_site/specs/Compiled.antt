@@ -3,14 +3,14 @@ use Rattle.std.specs.Prelude.{◌≡◌, ◌⊎◌, ℕ, List, map, take, All, O
 use Rattle.std.specs.Coded.{Coded, code_by, coded×, coded_list, coded_ℕ}
 use Rattle.tow_model.specs.contracts.statement.Statement.{the_row}
 use Rattle.tow_link.specs.Data.{Rose}
-use Rattle.tow_model.specs.declared.kind.Kind.{Kind}
-use Rattle.tow_model.specs.declared.kind.Kind.TheVariants.{BadPattern, LargePattern}
+use Rattle.tow_language.specs.declared.kind.Kind.{Kind}
+use Rattle.tow_language.specs.declared.kind.Kind.TheVariants.{BadPattern, LargePattern}
 use Rattle.tow_model.specs.declared.statement.Statement.{Statement}
-use Rattle.tow_model.specs.Raw.{RawList}
-use Rattle.tow_model.specs.Syntax.{Reads}
-use Rattle.tow_model.specs.Fit.{Counts, fit}
-use Rattle.tow_model.specs.Fault.{IsFault, line_of, column_of}
-use Rattle.tow_model.specs.Patterns.{IsGoodPattern}
+use Rattle.tow_language.specs.Raw.{RawList}
+use Rattle.tow_language.specs.Syntax.{Reads}
+use Rattle.tow_language.specs.Fit.{Counts, fit}
+use Rattle.tow_language.specs.Fault.{IsFault, line_of, column_of}
+use Rattle.tow_pattern.specs.Patterns.{IsGoodPattern}
 use Rattle.tow_pred.specs.declared.fault.PatternFault.{PatternFault}
 use Rattle.tow_pred.specs.declared.fault.PatternFault.TheVariants as patterns
 use Rattle.tow_pred.specs.Numbering.{tree_patterns}

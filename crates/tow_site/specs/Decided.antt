@@ -5,9 +5,9 @@ use Rattle.tow_model.specs.declared.content.Content.{Content}
 use Rattle.tow_model.specs.declared.record.Record.{Record}
 use Rattle.tow_model.specs.declared.request.Request.{Request}
 use Rattle.tow_model.specs.declared.statement.Statement.{Statement}
-use Rattle.tow_model.specs.Outcome.{outcome}
-use Rattle.tow_model.specs.Runs.{Ending}
-use Rattle.tow_model.specs.Sites.{walked_of, given}
+use Rattle.tow_semantics.specs.Outcome.{outcome}
+use Rattle.tow_semantics.specs.Runs.{Ending}
+use Rattle.tow_semantics.specs.Sites.{walked_of, given}
 
 -- decided with this record, with no limit entered and no content asked for
 abbrev pub settled : Record → Ending

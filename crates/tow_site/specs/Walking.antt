@@ -6,14 +6,14 @@ use Rattle.tow_model.specs.declared.content.Content.{Content}
 use Rattle.tow_model.specs.declared.record.Record.{Record}
 use Rattle.tow_model.specs.declared.request.Request.{Request}
 use Rattle.tow_model.specs.declared.statement.Statement.{Statement}
-use Rattle.tow_model.specs.Effects.{effect_of}
-use Rattle.tow_model.specs.Outcome.{Outcome, decided, by_default, default_stand, walks}
-use Rattle.tow_model.specs.Pages.{page_of}
-use Rattle.tow_model.specs.Plans.{Stand, marked}
-use Rattle.tow_model.specs.Files.{Files}
-use Rattle.tow_model.specs.Sites.{given}
-use Rattle.tow_model.specs.Walk.{Given, Notes, Answer, act_answer, walk_one, walk}
-use Rattle.tow_model.specs.Walk as model
+use Rattle.tow_semantics.specs.Effects.{effect_of}
+use Rattle.tow_semantics.specs.Outcome.{Outcome, decided, by_default, default_stand, walks}
+use Rattle.tow_semantics.specs.Pages.{page_of}
+use Rattle.tow_semantics.specs.Plans.{Stand, marked}
+use Rattle.tow_semantics.specs.Files.{Files}
+use Rattle.tow_semantics.specs.Sites.{given}
+use Rattle.tow_semantics.specs.Walk.{Given, Notes, Answer, act_answer, walk_one, walk}
+use Rattle.tow_semantics.specs.Walk as model
 use Rattle.tow_site.specs.declared.outcomes.Answerer.{Answerer}
 use Rattle.tow_site.specs.declared.outcomes.Answerer.TheVariants.{Text, DefaultHandler}
 use Rattle.tow_site.specs.declared.walk.Walked.{Walked}

@@ -4,7 +4,7 @@ use crate::{Fault, compile};
 use std::alloc::{AllocError, Global};
 use std::test::Fail;
 use tow_link::{KeyCounts, MemoryMaker, PackMaker};
-use tow_model::Kind;
+use tow_language::Kind;
 
 /// Texts, how many statements they have, and how many patterns.
 const COMPILED: [(&[u8], u32, usize); 8] = [

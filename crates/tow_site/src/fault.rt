@@ -1,4 +1,4 @@
-use tow_model::Kind;
+use tow_language::Kind;
 
 /// Why a text gave no site.
 #[derive(Clone, Copy, Debug, PartialEq, Eq)]

@@ -1,7 +1,7 @@
 ghost use Rattle.std.specs.Prelude.{◌≡◌, ◌<◌, IfOk, IsTrue};
 ghost use Rattle.tow_model.specs.Dates.{first_undated};
-ghost use Rattle.tow_model.specs.Predicates.{AreAmong};
-ghost use Rattle.tow_model.specs.Steps as model;
+ghost use Rattle.tow_semantics.specs.Predicates.{AreAmong};
+ghost use Rattle.tow_semantics.specs.Steps as model;
 ghost use Rattle.tow_pred.specs.Numbering.{tree_patterns};
 ghost use Rattle.tow_site.specs.Built.{is_built, is_built_statement};
 ghost use Rattle.tow_site.specs.Compiled.{pattern_texts};

@@ -2,7 +2,7 @@ ghost use Rattle.std.specs.Prelude.{◌≡◌, ◌≤◌, ◌+◌, ◌==◌, not
 ghost use Rattle.tow_site.specs.Compiled.{fault_of};
 
 use crate::fault::Fault;
-use tow_model::Kind;
+use tow_language::Kind;
 
 /// The fault of this kind at a place of the text, with its line and column.
 pub fn fault_at(text: &[u8], kind: Kind, place: usize) -> Fault

@@ -1,6 +1,6 @@
 ghost use Rattle.std.specs.Prelude.{◌≡◌, ◌<◌, ◌≤◌, length, IfSome};
-ghost use Rattle.tow_model.specs.Fault.{IsFault};
-ghost use Rattle.tow_model.specs.Tokens.{IsTokenFault};
+ghost use Rattle.tow_language.specs.Fault.{IsFault};
+ghost use Rattle.tow_language.specs.Tokens.{IsTokenFault};
 ghost use Rattle.tow_lex.specs.Faults.{lex_fault};
 ghost use Rattle.tow_fit.specs.Faults.{parse_fault};
 ghost use Rattle.tow_site.specs.Compiled.{IsTreeFault, pattern_fault, refused_number};
@@ -8,7 +8,7 @@ ghost use Rattle.tow_site.specs.Compiled.{IsTreeFault, pattern_fault, refused_nu
 use crate::fault::Fault;
 use crate::places::fault_at;
 use tow_lex::LexFault;
-use tow_model::Kind;
+use tow_language::Kind;
 use tow_parse::ParseFault;
 use tow_pred::PatternFault;
 

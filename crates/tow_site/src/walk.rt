@@ -1,7 +1,7 @@
 ghost use Rattle.std.specs.Prelude.{◌≡◌, ◌<◌, IfOk, IsTrue};
 ghost use Rattle.std.specs.List.{list_all};
 ghost use Rattle.tow_model.specs.Dates.{first_undated};
-ghost use Rattle.tow_model.specs.Predicates.{AreAmong};
+ghost use Rattle.tow_semantics.specs.Predicates.{AreAmong};
 ghost use Rattle.tow_pred.specs.Numbering.{statement_patterns, tree_patterns};
 ghost use Rattle.tow_site.specs.Built.{is_built_action, is_built_statement};
 ghost use Rattle.tow_site.specs.Walking.{Acts, Walks, WalksAll};

@@ -1,17 +1,18 @@
 //! The action of a handler's call, from what its parameters stand for.
 
 ghost use Rattle.std.specs.Prelude.{◌≡◌, ◌∷◌, [], length, IfErr, IfOk};
-ghost use Rattle.tow_model.specs.declared.table.Given.TheVariants as givens;
-ghost use Rattle.tow_model.specs.declared.table.Handler.TheVariants as handlers;
-ghost use Rattle.tow_model.specs.Fit as fits;
-ghost use Rattle.tow_model.specs.Table as table;
+ghost use Rattle.tow_language.specs.declared.table.Given.TheVariants as givens;
+ghost use Rattle.tow_language.specs.declared.table.Handler.TheVariants as handlers;
+ghost use Rattle.tow_language.specs.Fit as fits;
+ghost use Rattle.tow_language.specs.Table as table;
 ghost use Rattle.tow_fit.specs.Calls.{counts_of};
 ghost use Rattle.tow_fit.specs.Making.{givens_list};
 
 use crate::counts::Counts;
 use crate::fault::ParseFault;
 use crate::fitting::givens::Givens;
-use tow_model::{Action, Given, Handler, Template};
+use tow_language::{Given, Handler};
+use tow_model::{Action, Template};
 
 /// The action of this name; by the table the parameters fit it. Takes no memory.
 pub(crate) fn made_action(

@@ -2,11 +2,11 @@
 
 ghost use Rattle.std.specs.Prelude.{◌≡◌, ◌<◌, ◌∷◌, [], ℕ, List, Ok, Some, None, false, true, bytes_eq, length, map, option_map, slice_index_or, IfNone, IfSome};
 ghost use Rattle.std.specs.Map.{lookup};
-ghost use Rattle.tow_model.specs.declared.kind.Kind.TheVariants.{BadParameter};
-ghost use Rattle.tow_model.specs.declared.table.Given.TheVariants as givens;
-ghost use Rattle.tow_model.specs.Fit as fits;
-ghost use Rattle.tow_model.specs.Table as table;
-ghost use Rattle.tow_model.specs.Templates as templates;
+ghost use Rattle.tow_language.specs.declared.kind.Kind.TheVariants.{BadParameter};
+ghost use Rattle.tow_language.specs.declared.table.Given.TheVariants as givens;
+ghost use Rattle.tow_language.specs.Fit as fits;
+ghost use Rattle.tow_language.specs.Table as table;
+ghost use Rattle.tow_language.specs.Templates as templates;
 ghost use Rattle.tow_fit.specs.declared.fitting.parameters.Found.{Found};
 ghost use Rattle.tow_fit.specs.Calls.{parameters_of};
 ghost use Rattle.tow_fit.specs.Fitting.{Meets, MeetsBy, found_as, parameter_of, rows_of, standard_of};
@@ -19,7 +19,8 @@ use crate::fitting::parameters::{Found, found_in};
 use crate::fitting::table::{Row, Rows, Standard};
 use crate::fitting::templates::{COMMON, template_at};
 use std::alloc::Global;
-use tow_model::{Attribute, Given, List, Piece};
+use tow_language::Given;
+use tow_model::{Attribute, List, Piece};
 
 /// What up to three parameters stand for.
 #[derive(Debug, Drop)]

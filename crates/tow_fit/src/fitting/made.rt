@@ -1,17 +1,18 @@
 //! The test of a predicate's call, from what its parameters stand for.
 
 ghost use Rattle.std.specs.Prelude.{◌≡◌, ◌∷◌, [], length, IfErr, IfOk};
-ghost use Rattle.tow_model.specs.declared.table.Given.TheVariants as givens;
-ghost use Rattle.tow_model.specs.declared.table.TestName.TheVariants as tests;
-ghost use Rattle.tow_model.specs.Fit as fits;
-ghost use Rattle.tow_model.specs.Table as table;
+ghost use Rattle.tow_language.specs.declared.table.Given.TheVariants as givens;
+ghost use Rattle.tow_language.specs.declared.table.TestName.TheVariants as tests;
+ghost use Rattle.tow_language.specs.Fit as fits;
+ghost use Rattle.tow_language.specs.Table as table;
 ghost use Rattle.tow_fit.specs.Calls.{counts_of};
 ghost use Rattle.tow_fit.specs.Making.{givens_list};
 
 use crate::counts::Counts;
 use crate::fault::ParseFault;
 use crate::fitting::givens::Givens;
-use tow_model::{Bytes, Given, Template, Test, TestName};
+use tow_language::{Given, TestName};
+use tow_model::{Bytes, Template, Test};
 
 /// The test of this name; by the table the parameters fit it. Takes memory for the place of a pattern.
 pub(crate) fn made_test(

@@ -1,9 +1,9 @@
 //! The names that calls may have.
 
 ghost use Rattle.std.specs.Prelude.{◌≡◌, bytes_eq};
-ghost use Rattle.tow_model.specs.Table as table;
+ghost use Rattle.tow_language.specs.Table as table;
 
-use tow_model::{Handler, TestName};
+use tow_language::{Handler, TestName};
 
 /// The predicate of this name.
 pub(crate) fn test_named(name: &[u8]) -> Option<TestName>

@@ -3,7 +3,7 @@
 ghost use Rattle.std.specs.Prelude.{◌≡◌, ◌≤◌, ◌<◌, ◌*◌, ◌+◌, ◌-◌, ℕ, true, fold, length};
 ghost use Rattle.std.specs.List.{list_all};
 ghost use Rattle.std.specs.Char.{is_ascii_digit};
-ghost use Rattle.tow_model.specs.Shapes as shapes;
+ghost use Rattle.tow_language.specs.Shapes as shapes;
 
 use crate::fitting::names::is_name;
 

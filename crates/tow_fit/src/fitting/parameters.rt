@@ -2,8 +2,8 @@
 
 ghost use Rattle.std.specs.Prelude.{◌≡◌, [], None, Some, bytes_eq, find, if◌then◌else◌, map, option_map};
 ghost use Rattle.std.specs.List.{list_any};
-ghost use Rattle.tow_model.specs.Fit as fits;
-ghost use Rattle.tow_model.specs.Table as table;
+ghost use Rattle.tow_language.specs.Fit as fits;
+ghost use Rattle.tow_language.specs.Table as table;
 ghost use Rattle.tow_fit.specs.Calls.{pair_of, parameters_of, value_of};
 ghost use Rattle.tow_fit.specs.Fitting.{MeetsBy, found_as, found_in, next_found, parameter_of, rows_of};
 
@@ -14,7 +14,8 @@ use crate::fitting::table::{Row, Rows};
 use crate::fitting::unnamed::found_first;
 use crate::fitting::values::given_of;
 use std::alloc::Global;
-use tow_model::{Given, List};
+use tow_language::Given;
+use tow_model::List;
 
 /// A parameter that is written, and what it stands for.
 #[derive(Debug, Drop)]

@@ -2,7 +2,7 @@
 
 ghost use Rattle.std.specs.Prelude.{◌≡◌, ◌≤◌, IfOk, length, map, take};
 ghost use Rattle.tow_model.specs.Paths as paths;
-ghost use Rattle.tow_model.specs.Shapes as shapes;
+ghost use Rattle.tow_language.specs.Shapes as shapes;
 
 use std::alloc::{AllocError, Global};
 use tow_model::{Bytes, List};

@@ -3,7 +3,7 @@
 ghost use Rattle.std.specs.Prelude.{◌≡◌, ◌==◌, ◌||◌, IfOk};
 ghost use Rattle.std.specs.List.{list_all, list_any};
 ghost use Rattle.std.specs.Option.{option_copied};
-ghost use Rattle.tow_model.specs.Shapes as shapes;
+ghost use Rattle.tow_language.specs.Shapes as shapes;
 ghost use Rattle.tow_fit.specs.Fitting.{bound_segment, fixed_segment, is_bound_in, segments_in};
 
 use crate::fitting::names::is_name;

@@ -1,11 +1,11 @@
 //! The parameters of each predicate and handler.
 
 ghost use Rattle.std.specs.Prelude.{◌≡◌, codes};
-ghost use Rattle.tow_model.specs.declared.table.Shape.TheVariants as shapes;
-ghost use Rattle.tow_model.specs.Table as table;
+ghost use Rattle.tow_language.specs.declared.table.Shape.TheVariants as shapes;
+ghost use Rattle.tow_language.specs.Table as table;
 ghost use Rattle.tow_fit.specs.Fitting.{parameter_of, rows_of, standard_of};
 
-use tow_model::{Handler, Shape, TestName};
+use tow_language::{Handler, Shape, TestName};
 
 /// What a parameter stands for where it is not written.
 #[derive(Clone, Copy, Debug, PartialEq, Eq)]

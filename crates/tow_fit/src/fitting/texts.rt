@@ -1,7 +1,7 @@
 //! The texts of a value.
 
 ghost use Rattle.std.specs.Prelude.{◌≡◌, IfOk, map};
-ghost use Rattle.tow_model.specs.Fit as fits;
+ghost use Rattle.tow_language.specs.Fit as fits;
 ghost use Rattle.tow_fit.specs.Calls.{value_of, written_of};
 ghost use Rattle.tow_fit.specs.Fitting.{Meets, bytes_of};
 

@@ -1,9 +1,9 @@
 //! Parameters without names.
 
 ghost use Rattle.std.specs.Prelude.{◌≡◌, map, option_map, slice_get};
-ghost use Rattle.tow_model.specs.Fit as fits;
-ghost use Rattle.tow_model.specs.Raw.{unnamed};
-ghost use Rattle.tow_model.specs.Table as table;
+ghost use Rattle.tow_language.specs.Fit as fits;
+ghost use Rattle.tow_language.specs.Raw.{unnamed};
+ghost use Rattle.tow_language.specs.Table as table;
 ghost use Rattle.tow_fit.specs.Calls.{value_of};
 ghost use Rattle.tow_fit.specs.Fitting.{MeetsBy, found_as, found_at, found_in, none_taken, one_value, parameter_of, rows_of};
 
@@ -14,7 +14,8 @@ use crate::fitting::table::{Row, Rows};
 use crate::fitting::texts::place_of;
 use crate::fitting::values::given_of;
 use std::alloc::Global;
-use tow_model::{List, Shape};
+use tow_language::Shape;
+use tow_model::List;
 
 /// What the values stand for as the first parameter. Takes memory for it.
 pub(crate) fn found_first(

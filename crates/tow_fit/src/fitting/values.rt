@@ -1,8 +1,8 @@
 //! What a value of each shape stands for.
 
 ghost use Rattle.std.specs.Prelude.{◌≡◌};
-ghost use Rattle.tow_model.specs.declared.table.Shape.TheVariants as shapes;
-ghost use Rattle.tow_model.specs.Fit as fits;
+ghost use Rattle.tow_language.specs.declared.table.Shape.TheVariants as shapes;
+ghost use Rattle.tow_language.specs.Fit as fits;
 ghost use Rattle.tow_fit.specs.Calls.{value_of};
 ghost use Rattle.tow_fit.specs.Fitting.{Meets};
 
@@ -15,7 +15,7 @@ use crate::fitting::segments::segments_of;
 use crate::fitting::templates::{format_at, template_at, templates_at, writable_at};
 use crate::fitting::texts::{place_of, single_text, some_texts};
 use std::alloc::Global;
-use tow_model::{Given, Shape};
+use tow_language::{Given, Shape};
 
 /// What a value of this shape stands for: its shape is looked at first, then its attributes, then its target. Takes memory
 /// for what it makes anew.

@@ -1,5 +1,5 @@
 ghost use Rattle.std.specs.Prelude.{◌≡◌, ◌++◌, OnOk};
-ghost use Rattle.tow_model.specs.Printed.{printed_action};
+ghost use Rattle.tow_language.specs.Printed.{printed_action};
 ghost use Rattle.tow_model.specs.declared.action.Action.TheVariants as actions;
 
 use super::calls::{put_call_of_number, put_call_of_template, put_call_of_texts};

@@ -1,5 +1,5 @@
 ghost use Rattle.std.specs.Prelude.{◌≡◌, ◌++◌, OnOk, map, codes, decimal};
-ghost use Rattle.tow_model.specs.Printed.{printed_text, printed_template, printed_array};
+ghost use Rattle.tow_language.specs.Printed.{printed_text, printed_template, printed_array};
 
 use super::templates::put_template;
 use super::texts::{put_number, put_texts};

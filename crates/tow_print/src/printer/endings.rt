@@ -1,6 +1,6 @@
 ghost use Rattle.std.specs.Prelude.{◌≡◌, ◌==◌};
-ghost use Rattle.tow_model.specs.Templates.{spelled_piece, spelled_template};
-ghost use Rattle.tow_model.specs.Tokens.{last_byte};
+ghost use Rattle.tow_language.specs.Templates.{spelled_piece, spelled_template};
+ghost use Rattle.tow_language.specs.Tokens.{last_byte};
 ghost use Rattle.tow_print.specs.Parts.{spelled_form};
 
 use super::forms::{Form, form_of};

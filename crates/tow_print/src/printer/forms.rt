@@ -1,6 +1,6 @@
 ghost use Rattle.std.specs.Prelude.{◌≡◌, ℕ, List, ◌++◌, OnOk, codes};
-ghost use Rattle.tow_model.specs.Printed.{printed_text, printed_target};
-ghost use Rattle.tow_model.specs.Templates.{spelled_attribute};
+ghost use Rattle.tow_language.specs.Printed.{printed_text, printed_target};
+ghost use Rattle.tow_language.specs.Templates.{spelled_attribute};
 ghost use Rattle.tow_print.specs.Words.{ahead, bytes_in};
 ghost use Rattle.tow_print.specs.Parts.{spelled_form};
 

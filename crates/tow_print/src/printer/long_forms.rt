@@ -1,6 +1,6 @@
 ghost use Rattle.std.specs.Prelude.{◌≡◌, option_map};
 ghost use Rattle.std.specs.Option.{option_copied};
-ghost use Rattle.tow_model.specs.Templates.{long_word, long_form, spelled_long};
+ghost use Rattle.tow_language.specs.Templates.{long_word, long_form, spelled_long};
 ghost use Rattle.tow_print.specs.Parts.{spelled_form, spelled_parts};
 
 use super::forms::{Form, named};

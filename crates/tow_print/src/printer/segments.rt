@@ -1,6 +1,6 @@
 ghost use Rattle.std.specs.Prelude.{◌≡◌, ℕ, List, ◌∷◌, ◌++◌, OnOk, map, flat_map};
 ghost use Rattle.std.specs.List.{join_with_byte};
-ghost use Rattle.tow_model.specs.Printed.{printed_match, spelled_segment};
+ghost use Rattle.tow_language.specs.Printed.{printed_match, spelled_segment};
 ghost use Rattle.tow_print.specs.Words.{ahead, bytes_in};
 
 use super::spelling::Spelling;

@@ -1,6 +1,6 @@
 ghost use Rattle.std.specs.Prelude.{◌≡◌, ℕ, List, [], ◌∷◌, ◌++◌, not, ◌&&◌, nat_le, ◌==◌, codes, false};
 ghost use Rattle.std.specs.List.{list_any};
-ghost use Rattle.tow_model.specs.Tokens.{are_pieces};
+ghost use Rattle.tow_language.specs.Tokens.{are_pieces};
 ghost use Rattle.tow_print.specs.Words.{ahead};
 
 /// What was seen of bytes that may be one Word.

@@ -1,5 +1,5 @@
 ghost use Rattle.std.specs.Prelude.{◌≡◌, ◌++◌, OnOk, map, flat_map, codes};
-ghost use Rattle.tow_model.specs.Printed.{printed_statement, printed_block, print_of};
+ghost use Rattle.tow_language.specs.Printed.{printed_statement, printed_block, print_of};
 
 use super::actions::put_action;
 use super::predicates::{Site, put_predicate};

@@ -1,6 +1,6 @@
 ghost use Rattle.std.specs.Prelude.{◌≡◌, ℕ, List, ◌++◌, OnOk, map, flat_map, codes};
-ghost use Rattle.tow_model.specs.Printed.{printed_text, printed_template, printed_array};
-ghost use Rattle.tow_model.specs.Templates.{spelled_piece, spelled_template};
+ghost use Rattle.tow_language.specs.Printed.{printed_text, printed_template, printed_array};
+ghost use Rattle.tow_language.specs.Templates.{spelled_piece, spelled_template};
 ghost use Rattle.tow_model.specs.declared.attribute.Piece.TheVariants as pieces;
 ghost use Rattle.tow_print.specs.Parts.{spelled_parts};
 ghost use Rattle.tow_print.specs.Words.{ahead, bytes_in};

@@ -1,5 +1,5 @@
 ghost use Rattle.std.specs.Prelude.{◌≡◌, ◌++◌, OnOk};
-ghost use Rattle.tow_model.specs.Printed.{printed_test};
+ghost use Rattle.tow_language.specs.Printed.{printed_test};
 ghost use Rattle.tow_model.specs.declared.predicate.Test.TheVariants as tests;
 
 use super::calls::{put_call_of_template, put_call_of_texts};

@@ -1,6 +1,6 @@
 ghost use Rattle.std.specs.Prelude.{◌≡◌, ◌++◌, ◌==◌, [], OnOk, map, flat_map, codes, decimal, if◌then◌else◌};
-ghost use Rattle.tow_model.specs.Tokens.{last_byte};
-ghost use Rattle.tow_model.specs.Printed.{printed_text, printed_prefix, printed_array, printed_truth};
+ghost use Rattle.tow_language.specs.Tokens.{last_byte};
+ghost use Rattle.tow_language.specs.Printed.{printed_text, printed_prefix, printed_array, printed_truth};
 
 use super::endings::last_byte;
 use super::spelling::Spelling;

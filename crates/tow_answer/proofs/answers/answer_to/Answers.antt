@@ -1,5 +1,5 @@
 use Rattle.std.proofs.Common.{◌≡◌, ℕ, Bool, List, [], ◌∷◌, ◌++◌, codes, sym, ap, ◌∙◌, append_assoc}
-use Rattle.tow_model.specs.Answers.{closes, connection_fields, known_length, length_fields, sorted}
+use Rattle.tow_wire.specs.Answers.{closes, connection_fields, known_length, length_fields, sorted}
 use Rattle.tow_model.specs.Dates.{date_of}
 use Rattle.tow_model.specs.Fields.{field}
 use Rattle.tow_model.specs.declared.answer.Answer.{Answer}

@@ -1,5 +1,5 @@
 use Rattle.std.proofs.Common.{◌≡◌, vec_len}
-use Rattle.tow_model.specs.Answers.{sorted}
+use Rattle.tow_wire.specs.Answers.{sorted}
 use Rattle.tow_answer.proofs.Placing.{placed_all}
 use Rattle.tow_answer.proofs.sorting.sorted.Given as goal
 

@@ -2,7 +2,7 @@ use Rattle.std.proofs.Common.{◌≡◌, ◌==◌, ◌∙◌, ◌-◌, sym, ap, 
 use Rattle.std.proofs.lemmas.Result.{MatchResult-weaker}
 use Rattle.tow_model.specs.declared.attribute.Piece.TheVariants.{Value}
 use Rattle.tow_model.specs.declared.attribute.Attribute.TheVariants.{Context}
-use Rattle.tow_model.specs.Templates.{any_named, in_percent_brace}
+use Rattle.tow_language.specs.Templates.{any_named, in_percent_brace}
 use Rattle.tow_attr.proofs.Braced.{meaning, longer_spelled}
 use Rattle.tow_attr.proofs.attribute.read_attribute.Goals as goal
 

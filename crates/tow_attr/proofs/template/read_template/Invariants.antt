@@ -1,5 +1,5 @@
 use Rattle.std.proofs.Common.{length, ◌-◌, ◌≡◌, ◌≤◌}
-use Rattle.tow_model.specs.Templates.{template_of}
+use Rattle.tow_language.specs.Templates.{template_of}
 use Rattle.tow_attr.specs.Reading.{ahead, rest_from}
 use Rattle.tow_attr.proofs.template.read_template.Given as goal
 

@@ -1,6 +1,6 @@
 use Rattle.std.proofs.Common.{◌≡◌, ◌≢◌, ◌+◌, ◌<◌, ◌∙◌, sym, ap, ap₂, arith, length, get_or, slice_range, Some, option_map}
 use Rattle.tow_model.specs.declared.attribute.Piece.TheVariants.{Value}
-use Rattle.tow_model.specs.Templates.{piece_of}
+use Rattle.tow_language.specs.Templates.{piece_of}
 use Rattle.tow_attr.specs.Reading.{ahead, rest_from}
 use Rattle.tow_attr.proofs.Places.{percent_read, value_read}
 use Rattle.tow_attr.proofs.template.read_value.Goals as goal

@@ -1,5 +1,5 @@
 use Rattle.std.proofs.Common.{arith}
-use Rattle.tow_model.specs.Values.{longest_value}
+use Rattle.tow_semantics.specs.Values.{longest_value}
 use Rattle.tow_attr.proofs.Cutting.{cut_here}
 use Rattle.tow_attr.proofs.values.append_pieces.Goals as goal
 

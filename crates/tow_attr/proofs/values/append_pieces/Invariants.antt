@@ -1,5 +1,5 @@
 use Rattle.std.proofs.Common.{◌≡◌, ◌++◌, drop, flat_map}
-use Rattle.tow_model.specs.Values.{piece_of}
+use Rattle.tow_semantics.specs.Values.{piece_of}
 use Rattle.tow_attr.proofs.values.append_pieces.Given as goal
 
 -- what was written, and then what the pieces that are left stand for, is the whole

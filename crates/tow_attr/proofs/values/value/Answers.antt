@@ -1,5 +1,5 @@
 use Rattle.std.proofs.Common.{◌∙◌, ◌++◌, ap₂, flat_map, take}
-use Rattle.tow_model.specs.Values.{longest_value, piece_of}
+use Rattle.tow_semantics.specs.Values.{longest_value, piece_of}
 use Rattle.tow_attr.proofs.values.value.Goals as goal
 
 pub returns : goal.returns

@@ -2,7 +2,7 @@ use Rattle.std.proofs.Common.{◌∙◌, Bool, true, false, [], refl, ap, subst}
 use Rattle.std.specs.Prelude.{IfSome}
 use Rattle.std.specs.Io.KnownBytes.{append_known}
 use Rattle.tow_link.specs.Runs.{AppendsPart}
-use Rattle.tow_model.specs.Sites.{run_of}
+use Rattle.tow_semantics.specs.Sites.{run_of}
 use Rattle.tow_conn.specs.Conversations.{Answers}
 use Rattle.tow_conn.proofs.Turning.{expects_nothing, answers_told, front_answered, asks_answered, rest_written, goes_answered}
 use Rattle.tow_conn.proofs.answering.answer_request.Goals as goal

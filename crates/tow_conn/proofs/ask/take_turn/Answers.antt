@@ -1,6 +1,6 @@
 use Rattle.std.proofs.Common.{[], List, ℕ, take, inl, sym, subst, ◌∙◌}
-use Rattle.tow_model.specs.Stream.{IsBlank}
-use Rattle.tow_model.specs.Heads.{Head}
+use Rattle.tow_message.specs.Stream.{IsBlank}
+use Rattle.tow_message.specs.Heads.{Head}
 use Rattle.tow_conn.specs.Conversations.{local_peer}
 use Rattle.tow_conn.proofs.Served.{refused_later, same_reason}
 use Rattle.tow_conn.proofs.Turning.{asks_nothing, rest_written, append_known-nil, ended_is}

@@ -1,5 +1,5 @@
-use Rattle.tow_model.specs.Values.{value_of}
-use Rattle.tow_model.specs.Writing.{assigned}
+use Rattle.tow_semantics.specs.Values.{value_of}
+use Rattle.tow_semantics.specs.Writing.{assigned}
 use Rattle.tow_effect.specs.Parts.{headed}
 use Rattle.tow_effect.proofs.Going.{goes_on}
 use Rattle.tow_effect.proofs.acting.effect.Goals as goal

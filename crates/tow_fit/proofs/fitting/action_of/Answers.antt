@@ -1,6 +1,6 @@
 use Rattle.std.proofs.Common.{◌∙◌, ap, sym, subst, rules}
 use Rattle.std.proofs.lemmas.Result.{IfOk-weaker}
-use Rattle.tow_model.specs.Table.{handler_parameters}
+use Rattle.tow_language.specs.Table.{handler_parameters}
 use Rattle.tow_fit.specs.Calls.{counts_of, parameters_of}
 use Rattle.tow_fit.specs.Faults.{Fails}
 use Rattle.tow_fit.specs.Making.{are_apart, givens_in, givens_list, action_in}

@@ -1,6 +1,6 @@
 use Rattle.std.proofs.Common.{◌≡◌, ◌∙◌, ap, sym, subst, IfOk, Ok}
 use Rattle.std.specs.Prelude.{IfErr}
-use Rattle.tow_model.specs.Table.{test_named}
+use Rattle.tow_language.specs.Table.{test_named}
 use Rattle.tow_fit.specs.Calls.{call_of, counts_of}
 use Rattle.tow_fit.specs.Faults.{Fails}
 use Rattle.tow_fit.proofs.Fits.{test_is}

@@ -1,6 +1,6 @@
 use Rattle.std.proofs.Common.{length, ◌-◌, ◌≡◌, ◌≤◌, ℕ, slice_range}
 use Rattle.std.specs.List.{list_all}
-use Rattle.tow_model.specs.Tokens.{is_white}
+use Rattle.tow_language.specs.Tokens.{is_white}
 use Rattle.tow_lex.proofs.gap.gap_end.Given as goal
 
 abbrev pub invariant-loop-at : goal.invariant-loop-at

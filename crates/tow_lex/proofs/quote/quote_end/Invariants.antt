@@ -1,5 +1,5 @@
 use Rattle.std.proofs.Common.{◌≡◌, ◌≤◌, length, slice_range, ℕ, ◌+◌}
-use Rattle.tow_model.specs.Tokens.{are_escaped, last_byte}
+use Rattle.tow_language.specs.Tokens.{are_escaped, last_byte}
 use Rattle.tow_lex.proofs.quote.quote_end.Given as goal
 
 abbrev pub invariant-loop-at : goal.invariant-loop-at

@@ -1,7 +1,7 @@
 use Rattle.std.proofs.Common.{◌≡◌, ◌+◌, ◌∙◌, [], ◌∷◌, ◌++◌, ap, subst, sym, arith, length, drop, length-drop, append_assoc}
 use Rattle.std.proofs.lemmas.List.{append-nil}
 use Rattle.std.proofs.lemmas.Result.{err_from_is_err_and}
-use Rattle.tow_model.specs.Tokens.{CutsUpTo, Reaches}
+use Rattle.tow_language.specs.Tokens.{CutsUpTo, Reaches}
 use Rattle.tow_model.proofs.Spans.{none_then}
 use Rattle.tow_lex.proofs.Stops.{gap_cuts, token_cuts, stop_there}
 use Rattle.tow_lex.proofs.scan.scan.Goals as goal

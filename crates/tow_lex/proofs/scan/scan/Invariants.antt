@@ -1,6 +1,6 @@
 use Rattle.std.proofs.Common.{List, ◌++◌, drop, ◌-◌, ◌≤◌, length, ℕ}
-use Rattle.tow_model.specs.declared.token.Token.{Token}
-use Rattle.tow_model.specs.Tokens.{CutsUpTo}
+use Rattle.tow_language.specs.declared.token.Token.{Token}
+use Rattle.tow_language.specs.Tokens.{CutsUpTo}
 use Rattle.tow_lex.proofs.scan.scan.Given as goal
 
 abbrev pub invariant-loop-tokens : goal.invariant-loop-tokens

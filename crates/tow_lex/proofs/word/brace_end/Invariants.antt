@@ -1,5 +1,5 @@
 use Rattle.std.proofs.Common.{◌≡◌, true, drop}
-use Rattle.tow_model.specs.Tokens.{is_open}
+use Rattle.tow_language.specs.Tokens.{is_open}
 use Rattle.tow_lex.specs.Scan.{Leads}
 use Rattle.tow_lex.proofs.word.brace_end.Given as goal
 

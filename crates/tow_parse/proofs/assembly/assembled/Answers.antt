@@ -2,7 +2,7 @@ use Rattle.std.proofs.Common.{◌≡◌, [], ◌∷◌, Ok, IfErr, map, sym, ap,
 use Rattle.std.proofs.lemmas.List.{nil_from_length}
 use Rattle.std.proofs.lemmas.Result.{err_from_is_err_and}
 use Rattle.std.specs.Vec.Iter.{into_iter_items}
-use Rattle.tow_model.specs.Fit.{fit}
+use Rattle.tow_language.specs.Fit.{fit}
 use Rattle.tow_parse.specs.Builders.{built_of}
 use Rattle.tow_parse.specs.Building.{play, nothing}
 use Rattle.tow_fit.specs.Calls.{counts_of}

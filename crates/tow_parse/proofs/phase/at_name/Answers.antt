@@ -1,5 +1,5 @@
 use Rattle.std.proofs.Common.{subst, ◌≡◌, IfSome}
-use Rattle.tow_model.specs.Symbols.{symbol_of, word}
+use Rattle.tow_language.specs.Symbols.{symbol_of, word}
 use Rattle.tow_parse.specs.declared.goal.Phase.TheVariants as phases
 use Rattle.tow_parse.proofs.PhaseMoves.{at, name_phase}
 use Rattle.tow_parse.proofs.phase.at_name.Goals as goal

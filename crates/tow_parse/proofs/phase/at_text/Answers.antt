@@ -1,6 +1,6 @@
 use Rattle.std.proofs.Common.{sym, subst, ◌≡◌, [], ◌∷◌, ◌++◌, IfSome}
 use mathlib.Core.Logic.{inl, inr}
-use Rattle.tow_model.specs.Symbols.{symbol_of, word, quoted}
+use Rattle.tow_language.specs.Symbols.{symbol_of, word, quoted}
 use Rattle.tow_parse.specs.declared.goal.Phase.TheVariants as phases
 use Rattle.tow_parse.specs.declared.phase.Place.TheVariants as places
 use Rattle.tow_parse.specs.Phased.{PhaseTakes}

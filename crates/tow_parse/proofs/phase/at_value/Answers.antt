@@ -1,6 +1,6 @@
 use Rattle.std.proofs.Common.{refl, sym, subst, ◌≡◌, [], IfSome, IfNone, ℕ, List}
 use mathlib.Core.Logic.{inl, inr}
-use Rattle.tow_model.specs.Symbols.{symbol_of, word, quoted}
+use Rattle.tow_language.specs.Symbols.{symbol_of, word, quoted}
 use Rattle.tow_fit.specs.declared.call.WrittenValue.TheVariants as values
 use Rattle.tow_parse.specs.declared.goal.Phase.TheVariants as phases
 use Rattle.tow_parse.specs.declared.look.Look.TheVariants as looks

@@ -1,5 +1,5 @@
 use Rattle.std.proofs.Common.{sym, subst, ap, ◌∙◌, ◌≡◌, [], ◌∷◌, ◌++◌, IfOk, IfErr}
-use Rattle.tow_model.specs.Symbols.{symbol_of}
+use Rattle.tow_language.specs.Symbols.{symbol_of}
 use Rattle.tow_fit.specs.declared.call.WrittenParameters.TheVariants as written
 use Rattle.tow_fit.specs.declared.call.WrittenValue.TheVariants as values
 use Rattle.tow_parse.specs.declared.goal.Phase.TheVariants as phases

@@ -1,7 +1,7 @@
 use Rattle.std.proofs.Common.{rules, arith, ap, ◌≡◌, ◌+◌, ◌-◌, ◌<◌, true, false, [], ◌∷◌, ◌++◌, length, slice_index_or}
 use Rattle.std.specs.Prelude.{◌==◌, ◌&&◌, slice_range}
-use Rattle.tow_model.specs.Symbols.{unescaped}
-use Rattle.tow_model.specs.Tokens.{next_is}
+use Rattle.tow_language.specs.Symbols.{unescaped}
+use Rattle.tow_language.specs.Tokens.{next_is}
 use Rattle.tow_parse.proofs.Quotes.{byte_kept, byte_skipped}
 use Rattle.tow_parse.proofs.quoted.meant.Goals.{then-not-escapes+in_ok-push, else-not-escapes}
 use Rattle.tow_parse.proofs.quoted.meant.Goals as goal

@@ -1,6 +1,6 @@
 use Rattle.std.proofs.Common.{◌≡◌, ◌++◌}
 use Rattle.std.specs.Prelude.{slice_range}
-use Rattle.tow_model.specs.Symbols.{unescaped}
+use Rattle.tow_language.specs.Symbols.{unescaped}
 use Rattle.tow_parse.proofs.quoted.meant.Given as goal
 
 abbrev pub invariant-loop-at : goal.invariant-loop-at

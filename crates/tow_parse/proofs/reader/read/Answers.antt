@@ -1,9 +1,9 @@
 use Rattle.std.proofs.Common.{◌≡◌, ◌∙◌, ◌<◌, ap, arith, length, map, subst, sym, take}
 use Rattle.std.proofs.lemmas.List.{take_all}
 use Rattle.std.proofs.lemmas.Result.{err_from_is_err_and}
-use Rattle.tow_model.specs.Symbols.{symbol_of, symbols_of}
-use Rattle.tow_model.specs.Syntax.{IsList}
-use Rattle.tow_model.specs.Tokens.{Cuts}
+use Rattle.tow_language.specs.Symbols.{symbol_of, symbols_of}
+use Rattle.tow_language.specs.Syntax.{IsList}
+use Rattle.tow_language.specs.Tokens.{Cuts}
 use Rattle.tow_parse.specs.Parts.{raw_part}
 use Rattle.tow_parse.specs.Readers.{Agrees}
 use Rattle.tow_parse.proofs.Bounds.{token_stands}

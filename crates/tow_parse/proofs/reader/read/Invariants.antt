@@ -1,5 +1,5 @@
 use Rattle.std.proofs.Common.{◌≤◌, map, take}
-use Rattle.tow_model.specs.Symbols.{symbol_of}
+use Rattle.tow_language.specs.Symbols.{symbol_of}
 use Rattle.tow_parse.specs.Readers.{Agrees}
 use Rattle.tow_parse.proofs.reader.read.Given as goal
 

@@ -1,6 +1,6 @@
 use Rattle.std.proofs.Common.{rules, ◌≡◌, All, map, sym, subst}
-use Rattle.tow_model.specs.Patterns.{IsGoodPattern}
-use Rattle.tow_model.specs.Predicates.{AreAmong}
+use Rattle.tow_pattern.specs.Patterns.{IsGoodPattern}
+use Rattle.tow_semantics.specs.Predicates.{AreAmong}
 use Rattle.tow_pred.specs.Numbering.{tree_patterns}
 use Rattle.tow_pred.proofs.Trees.{numbered_among}
 use Rattle.tow_pred.proofs.building.build.Goals as goal

@@ -2,7 +2,7 @@ use Rattle.std.proofs.Common.{ℕ, ◌∙◌, [], ◌∷◌, ◌++◌, All, ap, 
 use Rattle.std.proofs.lemmas.List.Elements.{All-push, All-same}
 use Rattle.std.proofs.lemmas.List.{length-map, take-map}
 use Rattle.std.proofs.lemmas.Result.{err_from_is_err_and}
-use Rattle.tow_model.specs.Patterns.{IsGoodPattern}
+use Rattle.tow_pattern.specs.Patterns.{IsGoodPattern}
 use Rattle.tow_model.specs.Texts.{Text}
 use Rattle.tow_pred.specs.Found.{told}
 use Rattle.tow_pred.proofs.Faulting.{first_fault, told_at, told_more, told_of}

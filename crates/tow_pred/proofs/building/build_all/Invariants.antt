@@ -1,5 +1,5 @@
 use Rattle.std.proofs.Common.{◌≡◌, ◌≤◌, ℕ, List, All, map, take}
-use Rattle.tow_model.specs.Patterns.{IsGoodPattern}
+use Rattle.tow_pattern.specs.Patterns.{IsGoodPattern}
 use Rattle.tow_pred.specs.Found.{told}
 use Rattle.tow_pred.proofs.building.build_all.Given as goal
 

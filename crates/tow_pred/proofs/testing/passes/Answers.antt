@@ -1,9 +1,9 @@
 use Rattle.std.proofs.Common.{◌≡◌, ◌∙◌, IfOk, ap, sym, subst}
 use Rattle.std.proofs.lemmas.Option.{slice_get_within}
 use Rattle.std.proofs.lemmas.Result.{IfOk-weaker}
-use Rattle.tow_model.specs.Patterns.{pattern_bindings}
-use Rattle.tow_model.specs.Predicates.{AreAmong, held, pattern_of, test_of}
-use Rattle.tow_model.specs.Values.{value_of}
+use Rattle.tow_pattern.specs.Patterns.{pattern_bindings}
+use Rattle.tow_semantics.specs.Predicates.{AreAmong, held, pattern_of, test_of}
+use Rattle.tow_semantics.specs.Values.{value_of}
 use Rattle.tow_pred.proofs.Among.{numbered}
 use Rattle.tow_pred.proofs.Plain.{answer, holds_plain}
 use Rattle.tow_pred.proofs.testing.passes.Goals as goal

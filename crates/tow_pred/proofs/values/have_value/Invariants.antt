@@ -1,7 +1,7 @@
 use Rattle.std.proofs.Common.{◌≡◌, map, drop}
 use Rattle.std.specs.List.{list_all}
 use Rattle.std.specs.Str.{bytes_eq}
-use Rattle.tow_model.specs.Values.{value_of}
+use Rattle.tow_semantics.specs.Values.{value_of}
 use Rattle.tow_pred.proofs.values.have_value.Given as goal
 
 -- whether all have the value is whether those that are left do

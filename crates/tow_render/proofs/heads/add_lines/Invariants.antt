@@ -1,5 +1,5 @@
 use Rattle.std.proofs.Common.{◌≡◌, ◌++◌, flat_map, take}
-use Rattle.tow_model.specs.Answers.{field_line}
+use Rattle.tow_wire.specs.Answers.{field_line}
 use Rattle.tow_render.proofs.heads.add_lines.Given as goal
 
 -- the lines of the fields so far stand behind what there was

@@ -1,5 +1,5 @@
 use Rattle.std.proofs.Common.{take}
-use Rattle.tow_model.specs.Heads.{codings_of}
+use Rattle.tow_message.specs.Heads.{codings_of}
 use Rattle.tow_request.specs.Lines.{fields_at}
 use Rattle.tow_request.specs.Refusals.{Sums}
 use Rattle.tow_request.proofs.codings.codings_of.Given as goal

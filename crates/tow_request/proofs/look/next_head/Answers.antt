@@ -1,7 +1,7 @@
 use Rattle.std.proofs.Common.{rules, refl, sym, ◌∙◌, true≢false, inl, inr}
 use Rattle.httparse.specs.Grammar.{HasNoRequest, NeverHasRequest}
-use Rattle.tow_model.specs.Stream.{IsBlank}
-use Rattle.tow_model.proofs.StreamLemmas.{blank_has_none}
+use Rattle.tow_message.specs.Stream.{IsBlank}
+use Rattle.tow_message.proofs.StreamLemmas.{blank_has_none}
 use Rattle.tow_request.proofs.Fronts.{no_head, no_head_in_room, never_now, finds_none}
 use Rattle.tow_request.proofs.look.next_head.Goals as goal
 

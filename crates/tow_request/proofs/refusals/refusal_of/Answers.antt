@@ -1,5 +1,5 @@
 use Rattle.std.proofs.Common.{◌≡◌, Bool, Some, None, take, if◌then◌else◌, sym, ap, ◌∙◌}
-use Rattle.tow_model.specs.Heads.{is_coded, refusal}
+use Rattle.tow_message.specs.Heads.{is_coded, refusal}
 use Rattle.tow_request.specs.Lines.{fields_at}
 use Rattle.tow_request.proofs.Refusing.{refused_by_fields, refused_by_target, refusal_by_codings}
 use Rattle.tow_request.proofs.refusals.refusal_of.Goals.{then-is_wrong-via-then-is_wrong, then-is_wrong-via-else-is_wrong+then-not-has_form}

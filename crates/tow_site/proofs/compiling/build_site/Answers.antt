@@ -1,6 +1,6 @@
 use Rattle.std.proofs.Common.{◌≡◌, Err, ◌<◌, ◌∙◌, ℕ, List, All, IfSome, length, ap, sym, subst}
 use Rattle.tow_model.specs.declared.statement.Statement.{Statement}
-use Rattle.tow_model.specs.Patterns.{IsGoodPattern}
+use Rattle.tow_pattern.specs.Patterns.{IsGoodPattern}
 use Rattle.tow_site.specs.declared.fault.Fault.{Fault}
 use Rattle.tow_site.specs.Compiled.{HasTree, IsFaultOfText, pattern_fault, pattern_texts, refused_number}
 use Rattle.tow_pred.specs.declared.fault.PatternFault.TheVariants as patterns

@@ -1,6 +1,6 @@
 use Rattle.std.proofs.Common.{subst, inl, IfSome}
-use Rattle.tow_model.specs.declared.kind.Kind.TheVariants as kinds
-use Rattle.tow_model.specs.Tokens.{IsTokenFault}
+use Rattle.tow_language.specs.declared.kind.Kind.TheVariants as kinds
+use Rattle.tow_language.specs.Tokens.{IsTokenFault}
 use Rattle.tow_lex.specs.Faults.{lex_fault}
 use Rattle.tow_site.proofs.Naming.{named}
 use Rattle.tow_site.proofs.refusing.fault_of_tokens.Goals as goal

@@ -1,7 +1,7 @@
 use Rattle.std.proofs.Common.{◌≡◌, IsTrue, drop}
 use Rattle.std.specs.List.{list_all}
 use Rattle.tow_model.specs.declared.record.Record.{Record}
-use Rattle.tow_model.specs.Predicates.{AreAmong}
+use Rattle.tow_semantics.specs.Predicates.{AreAmong}
 use Rattle.tow_pred.specs.Numbering.{tree_patterns}
 use Rattle.tow_site.specs.Built.{is_built_statement}
 use Rattle.tow_site.specs.Walking.{WalksAll}

@@ -1,10 +1,10 @@
 use Rattle.std.proofs.Common.{◌≡◌, ◌≢◌, sym, ap, ◌∙◌}
 use Rattle.tow_model.specs.declared.record.Record.{Record}
-use Rattle.tow_model.specs.Effects as effects
-use Rattle.tow_model.specs.Plans.{marked}
-use Rattle.tow_model.specs.Sites.{given}
-use Rattle.tow_model.specs.Walk.{act_answer}
-use Rattle.tow_model.specs.Walk as model
+use Rattle.tow_semantics.specs.Effects as effects
+use Rattle.tow_semantics.specs.Plans.{marked}
+use Rattle.tow_semantics.specs.Sites.{given}
+use Rattle.tow_semantics.specs.Walk.{act_answer}
+use Rattle.tow_semantics.specs.Walk as model
 use Rattle.tow_site.specs.Walking.{at}
 use Rattle.tow_site.proofs.walk.act.Goals as goal
 

@@ -1,5 +1,5 @@
 use Rattle.std.proofs.Common.{◌≡◌, ◌∙◌, sym, ap, subst, Err}
-use Rattle.tow_model.specs.Fit.{field_at}
+use Rattle.tow_language.specs.Fit.{field_at}
 use Rattle.tow_attr.proofs.Names.{is_named, is_not_named}
 use Rattle.tow_fit.specs.Fitting.{Meets, writable_field}
 use Rattle.tow_fit.proofs.Fields.{from_named, field_is}

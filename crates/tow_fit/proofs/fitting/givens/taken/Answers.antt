@@ -2,8 +2,8 @@ use Rattle.std.proofs.Common.{◌∙◌, ◌<◌, List, length, ap, sym, subst, 
 use Rattle.std.specs.Prelude.{bytes_eq}
 use Rattle.std.specs.Map.{lookup}
 use Rattle.std.specs.Option.{option_or}
-use Rattle.tow_model.specs.declared.kind.Kind.TheVariants.{BadParameter}
-use Rattle.tow_model.specs.Fit.{wanted}
+use Rattle.tow_language.specs.declared.kind.Kind.TheVariants.{BadParameter}
+use Rattle.tow_language.specs.Fit.{wanted}
 use Rattle.tow_fit.specs.declared.fitting.parameters.Found.{Found}
 use Rattle.tow_fit.specs.Fitting.{Meets, found_as, standard_of}
 use Rattle.tow_fit.proofs.Taking.{lookup_removed, other_name}

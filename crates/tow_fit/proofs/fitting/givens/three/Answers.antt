@@ -1,5 +1,5 @@
 use Rattle.std.proofs.Common.{◌∙◌, ◌∷◌, [], ap, sym, subst, map, rules, refl}
-use Rattle.tow_model.specs.Fit.{filled}
+use Rattle.tow_language.specs.Fit.{filled}
 use Rattle.tow_fit.specs.Faults.{Fails}
 use Rattle.tow_fit.specs.Fitting.{found_as, parameter_of}
 use Rattle.tow_fit.proofs.Taking.{apart_rest, apart_second, apart_third, apart_two, filled_step, first_fails, rest_fails, same_one}

@@ -1,7 +1,7 @@
 use Rattle.std.proofs.Common.{◌≡◌, ◌∙◌, ◌∷◌, [], length, map, sym, ap, subst, arith, rules, Ok}
 use Rattle.std.proofs.lemmas.List.{map-append}
 use Rattle.std.specs.Vec.Iter.{into_iter_items}
-use Rattle.tow_model.specs.Fit.{found_of}
+use Rattle.tow_language.specs.Fit.{found_of}
 use Rattle.tow_fit.specs.Calls.{pair_of}
 use Rattle.tow_fit.specs.Faults.{Fails}
 use Rattle.tow_fit.specs.Fitting.{found_as, next_found, rows_of}

@@ -1,6 +1,6 @@
 use Rattle.std.proofs.Common.{◌≡◌, map, length, []}
 use Rattle.std.specs.Vec.Iter.{into_iter_items, into_iter_len}
-use Rattle.tow_model.specs.Fit as fits
+use Rattle.tow_language.specs.Fit as fits
 use Rattle.tow_fit.specs.Calls.{pair_of}
 use Rattle.tow_fit.specs.Fitting.{rows_of, found_as}
 use Rattle.tow_fit.proofs.fitting.parameters.found_of.Given as goal

@@ -1,5 +1,5 @@
 use Rattle.std.proofs.Common.{◌≡◌, ◌≤◌, length, take}
-use Rattle.tow_model.specs.Shapes.{without_last_slashes}
+use Rattle.tow_language.specs.Shapes.{without_last_slashes}
 use Rattle.tow_fit.proofs.fitting.paths.slashes_at.Given as goal
 
 abbrev pub invariant-loop-end : goal.invariant-loop-end

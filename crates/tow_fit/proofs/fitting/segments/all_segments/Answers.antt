@@ -1,7 +1,7 @@
 use Rattle.std.proofs.Common.{◌∙◌, ap, sym, rules, tests, map}
 use Rattle.tow_fit.proofs.Cutting.{piece_comes, all_came}
 use Rattle.tow_fit.proofs.Segments.{all_some_all, all_some_none, each_segment}
-use Rattle.tow_model.specs.Shapes.{all_some, segment_of}
+use Rattle.tow_language.specs.Shapes.{all_some, segment_of}
 use Rattle.tow_model.specs.Texts.{cut_at}
 use Rattle.tow_fit.proofs.fitting.segments.all_segments.Goals as goal
 

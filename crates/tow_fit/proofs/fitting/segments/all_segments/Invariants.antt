@@ -1,5 +1,5 @@
 use Rattle.std.proofs.Common.{◌≡◌, map, Some}
-use Rattle.tow_model.specs.Shapes.{segment_of}
+use Rattle.tow_language.specs.Shapes.{segment_of}
 use Rattle.tow_fit.proofs.fitting.segments.all_segments.Given as goal
 
 abbrev pub invariant-loop-text : goal.invariant-loop-text

@@ -1,5 +1,5 @@
 use Rattle.std.proofs.Common.{◌≡◌, drop}
-use Rattle.tow_model.specs.Shapes.{are_names_apart}
+use Rattle.tow_language.specs.Shapes.{are_names_apart}
 use Rattle.tow_fit.proofs.fitting.segments.are_names_apart.Given as goal
 
 abbrev pub invariant-loop-at : goal.invariant-loop-at

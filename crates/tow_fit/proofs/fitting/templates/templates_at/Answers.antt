@@ -1,6 +1,6 @@
 use Rattle.std.proofs.Common.{◌∙◌, ◌+◌, sym, ap, subst, rules, drop, Ok}
 use Rattle.std.proofs.Math.ListN.{drop_of_length-le}
-use Rattle.tow_model.specs.Fit.{template_at, templates_at}
+use Rattle.tow_language.specs.Fit.{template_at, templates_at}
 use Rattle.tow_fit.specs.Faults.{Fails}
 use Rattle.tow_fit.specs.Fitting.{joined}
 use Rattle.tow_fit.proofs.Templates.{nothing_done, all_done, one_more, one_fails}

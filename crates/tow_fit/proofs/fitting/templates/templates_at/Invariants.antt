@@ -1,5 +1,5 @@
 use Rattle.std.proofs.Common.{◌≡◌, drop}
-use Rattle.tow_model.specs.Fit as fits
+use Rattle.tow_language.specs.Fit as fits
 use Rattle.tow_fit.specs.Fitting.{joined}
 use Rattle.tow_fit.proofs.fitting.templates.templates_at.Given as goal
 

@@ -1,5 +1,5 @@
 use Rattle.std.proofs.Common.{◌∙◌, sym, ap, Ok}
-use Rattle.tow_model.specs.Fit.{some_texts}
+use Rattle.tow_language.specs.Fit.{some_texts}
 use Rattle.tow_fit.specs.Calls.{value_of}
 use Rattle.tow_fit.proofs.Arrays.{array_texts}
 use Rattle.tow_fit.proofs.fitting.texts.some_texts.Goals as goal

@@ -1,10 +1,10 @@
 use Rattle.std.proofs.Common.{◌≡◌, ◌∙◌, ◌++◌, ◌∷◌, [], length, map, option_map, sym, ap, arith, Some}
 use Rattle.std.proofs.lemmas.List.{append-nil, map-append}
 use Rattle.std.specs.Vec.Iter.{into_iter_items}
-use Rattle.tow_model.specs.declared.kind.Kind.TheVariants.{BadParameter}
-use Rattle.tow_model.specs.Fit.{text_of, wanted}
-use Rattle.tow_model.specs.Raw.{array}
-use Rattle.tow_model.specs.Shapes.{all_some}
+use Rattle.tow_language.specs.declared.kind.Kind.TheVariants.{BadParameter}
+use Rattle.tow_language.specs.Fit.{text_of, wanted}
+use Rattle.tow_language.specs.Raw.{array}
+use Rattle.tow_language.specs.Shapes.{all_some}
 use Rattle.tow_fit.specs.Calls.{value_of, written_of}
 use Rattle.tow_fit.proofs.Parameters.{gathered_more, gathered_none, nothing_left}
 use Rattle.tow_fit.proofs.fitting.unnamed.gathered.Goals as goal

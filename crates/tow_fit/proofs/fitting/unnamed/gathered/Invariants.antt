@@ -1,7 +1,7 @@
 use Rattle.std.proofs.Common.{◌≡◌, ◌++◌, map, length, option_map}
 use Rattle.std.specs.Vec.Iter.{into_iter_items, into_iter_len}
-use Rattle.tow_model.specs.Fit.{text_of}
-use Rattle.tow_model.specs.Shapes.{all_some}
+use Rattle.tow_language.specs.Fit.{text_of}
+use Rattle.tow_language.specs.Shapes.{all_some}
 use Rattle.tow_fit.specs.Calls.{value_of, written_of}
 use Rattle.tow_fit.proofs.fitting.unnamed.gathered.Given as goal
 

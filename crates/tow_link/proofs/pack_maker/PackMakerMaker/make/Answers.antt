@@ -1,6 +1,6 @@
 use Rattle.std.proofs.Common.{subst, sym}
 use Rattle.regex.specs.Failures.{IsRightKind}
-use Rattle.tow_model.specs.Patterns.{over_bytes, IsGoodPattern}
+use Rattle.tow_pattern.specs.Patterns.{over_bytes, IsGoodPattern}
 use Rattle.tow_link.proofs.Refusing.{refused_is_bad}
 use Rattle.tow_link.proofs.pack_maker.PackMakerMaker.make.Goals as goal
 

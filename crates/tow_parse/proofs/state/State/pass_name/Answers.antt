@@ -3,7 +3,7 @@ use Rattle.tow_parse.specs.declared.goal.Goal.TheVariants.{Called, Named}
 use Rattle.tow_parse.specs.declared.goal.Role.TheVariants.{Test, Handler, Front}
 use Rattle.tow_parse.specs.declared.part.Part.TheVariants as parts
 use Rattle.std.specs.Prelude.{map}
-use Rattle.tow_model.specs.Raw.{unnamed}
+use Rattle.tow_language.specs.Raw.{unnamed}
 use Rattle.tow_fit.specs.declared.call.WrittenParameters.TheVariants as written
 use Rattle.tow_fit.specs.declared.call.Call.{Call}
 use Rattle.tow_fit.specs.Calls.{call_of, value_of}

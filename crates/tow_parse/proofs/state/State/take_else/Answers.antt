@@ -1,5 +1,5 @@
 use Rattle.std.proofs.Common.{refl, ◌∙◌, ap, subst, arith, ◌<◌, ◌-◌, true, [], ◌∷◌}
-use Rattle.tow_model.specs.Symbols.{symbol_of}
+use Rattle.tow_language.specs.Symbols.{symbol_of}
 use Rattle.tow_parse.specs.declared.goal.Goal.TheVariants.{Statement, Else, Told}
 use Rattle.tow_parse.specs.declared.goal.Joint.TheVariants as joints
 use Rattle.tow_parse.specs.Looks.{Shows}

@@ -1,5 +1,5 @@
 use Rattle.std.proofs.Common.{refl, ◌∙◌, ap, subst, arith, ◌<◌, ◌-◌, true, false, [], ◌∷◌}
-use Rattle.tow_model.specs.Symbols.{symbol_of}
+use Rattle.tow_language.specs.Symbols.{symbol_of}
 use Rattle.tow_parse.specs.declared.goal.Goal.TheVariants.{Factor, Joined, Told, Named}
 use Rattle.tow_parse.specs.declared.goal.Joint.TheVariants as joints
 use Rattle.tow_parse.specs.declared.goal.Role.TheVariants.{Test}

@@ -1,5 +1,5 @@
 use Rattle.std.proofs.Common.{[], ◌∷◌}
-use Rattle.tow_model.specs.Symbols.{symbol_of}
+use Rattle.tow_language.specs.Symbols.{symbol_of}
 use Rattle.tow_parse.specs.declared.goal.Goal.TheVariants.{Named, Parameters}
 use Rattle.tow_parse.specs.declared.goal.Phase.TheVariants as phases
 use Rattle.tow_parse.proofs.CallMoves.{named_taken}

@@ -1,6 +1,6 @@
 use Rattle.std.proofs.Common.{refl, subst, false, [], ◌∷◌}
 use Rattle.std.proofs.lemmas.Result.{err_from_is_err_and}
-use Rattle.tow_model.specs.Symbols.{symbol_of}
+use Rattle.tow_language.specs.Symbols.{symbol_of}
 use Rattle.tow_parse.specs.declared.goal.Goal.TheVariants.{Parameters}
 use Rattle.tow_parse.specs.declared.phase.Place.TheVariants as places
 use Rattle.tow_parse.specs.Phased.{PhaseTakes, role_goals, role_told, call_with}

@@ -1,5 +1,5 @@
 use Rattle.std.proofs.Common.{rules, refl, sym, ◌∙◌, ap, subst, ◌≡◌, true, false, [], ◌∷◌}
-use Rattle.tow_model.specs.Symbols.{symbol_of}
+use Rattle.tow_language.specs.Symbols.{symbol_of}
 use Rattle.tow_parse.specs.declared.goal.Goal.TheVariants.{Statement, Factor, Joined, Target, Else, Named}
 use Rattle.tow_parse.specs.declared.goal.Role.TheVariants.{Front}
 use Rattle.tow_parse.specs.Looks.{Shows}

@@ -1,5 +1,5 @@
 use Rattle.std.proofs.Common.{rules, refl, sym, ◌∙◌, ap, subst, ◌≡◌, true, false, [], ◌∷◌}
-use Rattle.tow_model.specs.Symbols.{symbol_of}
+use Rattle.tow_language.specs.Symbols.{symbol_of}
 use Rattle.tow_parse.specs.declared.goal.Goal.TheVariants.{Statements, Statement, Told}
 use Rattle.tow_parse.specs.declared.goal.Joint.TheVariants as joints
 use Rattle.tow_parse.specs.declared.look.Look.TheVariants as looks

@@ -1,5 +1,5 @@
 use Rattle.std.proofs.Common.{refl, ◌∙◌, ap, subst, arith, ◌<◌, ◌-◌, true, false, [], ◌∷◌}
-use Rattle.tow_model.specs.Symbols.{symbol_of}
+use Rattle.tow_language.specs.Symbols.{symbol_of}
 use Rattle.tow_parse.specs.declared.goal.Goal.TheVariants.{Statements, Target, Named}
 use Rattle.tow_parse.specs.declared.goal.Role.TheVariants.{Handler}
 use Rattle.tow_parse.specs.declared.part.Part.TheVariants as parts

@@ -1,5 +1,5 @@
 use Rattle.std.proofs.Common.{subst, ◌∷◌, [], IfSome, IfNone}
-use Rattle.tow_model.specs.Symbols.{symbol_of}
+use Rattle.tow_language.specs.Symbols.{symbol_of}
 use Rattle.tow_fit.specs.declared.fault.ParseFault.TheVariants.{Unexpected}
 use Rattle.tow_parse.specs.Moves.{Passes}
 use Rattle.tow_parse.proofs.Stepping.{steps, halts, nothing_follows}

@@ -1,6 +1,6 @@
 use Rattle.std.proofs.Common.{ap, sym, ◌∙◌}
-use Rattle.tow_model.specs.Templates.{spelled_piece}
-use Rattle.tow_model.specs.Tokens.{last_byte}
+use Rattle.tow_language.specs.Templates.{spelled_piece}
+use Rattle.tow_language.specs.Tokens.{last_byte}
 use Rattle.tow_print.proofs.Pieces.{last_of_more}
 use Rattle.tow_print.proofs.printer.endings.ends_with_backslash.Goals as goal
 

@@ -1,5 +1,5 @@
 use Rattle.std.proofs.Common.{◌++◌, ap, sym, ◌∙◌}
-use Rattle.tow_model.specs.Tokens.{last_byte}
+use Rattle.tow_language.specs.Tokens.{last_byte}
 use Rattle.tow_print.proofs.Pieces.{last_append}
 use Rattle.tow_print.proofs.printer.endings.last_of_form.Goals as goal
 

@@ -1,6 +1,6 @@
 use Rattle.std.proofs.Common.{arith, ◌≡◌, ◌+◌, ◌-◌, ◌++◌, Some, None, sym, ap, ◌∙◌, length, take, drop, length-drop}
 use Rattle.std.proofs.Math.Seq.{take-length}
-use Rattle.tow_model.specs.Templates.{spelled_template, spelled_long}
+use Rattle.tow_language.specs.Templates.{spelled_template, spelled_long}
 use Rattle.tow_print.specs.Parts.{spelled_form}
 use Rattle.tow_print.proofs.Pieces.{long_at}
 use Rattle.tow_print.proofs.printer.long_forms.long_template.Goals as goal

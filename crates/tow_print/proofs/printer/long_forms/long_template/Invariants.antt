@@ -1,5 +1,5 @@
 use Rattle.std.proofs.Common.{◌≡◌, ◌≤◌, length, drop, None}
-use Rattle.tow_model.specs.Templates.{spelled_long}
+use Rattle.tow_language.specs.Templates.{spelled_long}
 use Rattle.tow_print.proofs.printer.long_forms.long_template.Given as goal
 
 abbrev pub invariant-loop-at : goal.invariant-loop-at

@@ -1,5 +1,5 @@
 use Rattle.std.proofs.Common.{◌≡◌, ◌∷◌, ◌++◌, take, flat_map}
-use Rattle.tow_model.specs.Printed.{spelled_segment}
+use Rattle.tow_language.specs.Printed.{spelled_segment}
 use Rattle.tow_print.specs.Words.{bytes_in}
 use Rattle.tow_print.proofs.printer.segments.put_more.Given as goal
 

@@ -1,7 +1,7 @@
 use Rattle.std.proofs.Common.{arith, map, flat_map, drop, ◌≡◌, ◌∷◌, ◌++◌}
 use Rattle.std.proofs.lemmas.Grind.{common_steps}
 use Rattle.std.specs.List.{join_with_byte}
-use Rattle.tow_model.specs.Printed.{spelled_segment}
+use Rattle.tow_language.specs.Printed.{spelled_segment}
 use Rattle.tow_print.proofs.Words.{segment_row_is, bytes_in_append}
 use Rattle.tow_print.proofs.printer.segments.put_segments.Goals as goal
 

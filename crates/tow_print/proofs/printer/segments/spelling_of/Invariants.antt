@@ -1,5 +1,5 @@
 use Rattle.std.proofs.Common.{◌≡◌, ℕ, List, ◌∷◌, ◌++◌, drop, flat_map}
-use Rattle.tow_model.specs.Printed.{spelled_segment}
+use Rattle.tow_language.specs.Printed.{spelled_segment}
 use Rattle.tow_print.specs.Words.{ahead}
 use Rattle.tow_print.proofs.printer.segments.spelling_of.Given as goal
 

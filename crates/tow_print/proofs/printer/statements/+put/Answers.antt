@@ -1,7 +1,7 @@
 use Rattle.std.proofs.Common.{arith, ◌≡◌, ◌+◌, [], ◌∷◌, ◌++◌, map, take, sym, ap, ◌∙◌, append_assoc}
 use Rattle.std.proofs.lemmas.Grind.{common_steps}
 use Rattle.std.proofs.lemmas.List.{take_more, take_all, map-append}
-use Rattle.tow_model.specs.Printed.{printed_statement}
+use Rattle.tow_language.specs.Printed.{printed_statement}
 use Rattle.tow_print.proofs.Words.{one_more_part, before_more, block_is}
 use Rattle.tow_print.proofs.printer.statements.+put.Goals as goal
 

@@ -1,5 +1,5 @@
 use Rattle.std.proofs.Common.{◌≡◌, ◌++◌, map, take}
-use Rattle.tow_model.specs.Printed.{printed_statement}
+use Rattle.tow_language.specs.Printed.{printed_statement}
 use Rattle.tow_print.specs.Parts.{parts_behind, before_part}
 use Rattle.tow_print.proofs.printer.statements.+put.Given as goal
 

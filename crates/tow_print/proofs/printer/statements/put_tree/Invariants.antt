@@ -1,5 +1,5 @@
 use Rattle.std.proofs.Common.{◌≡◌, ◌++◌, take}
-use Rattle.tow_model.specs.Printed.{print_of}
+use Rattle.tow_language.specs.Printed.{print_of}
 use Rattle.tow_print.proofs.printer.statements.put_tree.Given as goal
 
 abbrev pub invariant-loop-statement : goal.invariant-loop-statement

@@ -1,5 +1,5 @@
 use Rattle.std.proofs.Common.{◌≡◌, ◌++◌, take}
-use Rattle.tow_model.specs.Templates.{spelled_piece}
+use Rattle.tow_language.specs.Templates.{spelled_piece}
 use Rattle.tow_model.specs.declared.attribute.Piece.TheVariants as pieces
 use Rattle.tow_print.specs.Words.{bytes_in}
 use Rattle.tow_print.proofs.printer.templates.put_literal.Given as goal

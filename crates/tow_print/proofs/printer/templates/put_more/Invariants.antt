@@ -1,5 +1,5 @@
 use Rattle.std.proofs.Common.{◌≡◌, ◌++◌, take, flat_map, codes}
-use Rattle.tow_model.specs.Printed.{printed_template}
+use Rattle.tow_language.specs.Printed.{printed_template}
 use Rattle.tow_print.proofs.printer.templates.put_more.Given as goal
 
 abbrev pub invariant-loop-one : goal.invariant-loop-one

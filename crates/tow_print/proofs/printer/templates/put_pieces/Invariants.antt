@@ -1,5 +1,5 @@
 use Rattle.std.proofs.Common.{◌≡◌, ◌++◌, take}
-use Rattle.tow_model.specs.Templates.{spelled_template}
+use Rattle.tow_language.specs.Templates.{spelled_template}
 use Rattle.tow_print.specs.Words.{bytes_in}
 use Rattle.tow_print.proofs.printer.templates.put_pieces.Given as goal
 

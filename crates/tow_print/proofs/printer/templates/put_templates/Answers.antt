@@ -1,6 +1,6 @@
 use Rattle.std.proofs.Common.{arith, codes, map, flat_map, drop, ◌≡◌, ◌++◌}
 use Rattle.std.proofs.lemmas.Grind.{common_steps}
-use Rattle.tow_model.specs.Printed.{printed_template, joined_by}
+use Rattle.tow_language.specs.Printed.{printed_template, joined_by}
 use Rattle.tow_print.proofs.Words.{row_is}
 use Rattle.tow_print.proofs.printer.templates.put_templates.Goals as goal
 

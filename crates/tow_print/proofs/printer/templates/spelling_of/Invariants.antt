@@ -1,5 +1,5 @@
 use Rattle.std.proofs.Common.{◌≡◌, ℕ, List, ◌++◌, drop}
-use Rattle.tow_model.specs.Templates.{spelled_template}
+use Rattle.tow_language.specs.Templates.{spelled_template}
 use Rattle.tow_print.specs.Words.{ahead}
 use Rattle.tow_print.proofs.printer.templates.spelling_of.Given as goal
 

@@ -1,5 +1,5 @@
 use Rattle.std.proofs.Common.{◌≡◌, ℕ, List, ◌++◌, drop}
-use Rattle.tow_model.specs.Templates.{spelled_piece}
+use Rattle.tow_language.specs.Templates.{spelled_piece}
 use Rattle.tow_model.specs.declared.attribute.Piece.TheVariants as pieces
 use Rattle.tow_print.specs.Words.{ahead}
 use Rattle.tow_print.proofs.printer.templates.with_literal.Given as goal

@@ -1,5 +1,5 @@
 use Rattle.std.proofs.Common.{◌≡◌, ◌++◌, take, flat_map, codes}
-use Rattle.tow_model.specs.Printed.{printed_prefix}
+use Rattle.tow_language.specs.Printed.{printed_prefix}
 use Rattle.tow_print.proofs.printer.texts.put_more_prefixes.Given as goal
 
 abbrev pub invariant-loop-one : goal.invariant-loop-one

@@ -1,0 +1,6 @@
+pub mod Cut
+pub mod Folds
+pub mod Kept
+pub mod Syntactic
+pub mod Unique
+mod LanguageExamples

@@ -1,0 +1,13 @@
+pub mod Tokens
+pub mod Templates
+pub mod Shapes
+pub mod Raw
+pub mod Symbols
+pub mod Grammar
+pub mod Levels
+pub mod Syntax
+pub mod Table
+pub mod Fit
+pub mod Fault
+pub mod Printed
+pub mod Laws

@@ -1,0 +1,4 @@
+pub mod Heads
+pub mod FirstHead
+pub mod Contents
+pub mod Stream

@@ -1,5 +1,0 @@
-use Rattle.tow_model.proofs.ContentLemmas.{content_is_one}
-use Rattle.tow_model.proofs.laws.content_is_one.Goals as goal
-
-pub returns : goal.returns
-returns c = content_is_one c.args.framing c.args.input.now

@@ -1,5 +1,0 @@
-use Rattle.tow_model.proofs.FirstHeads.{head_is_one}
-use Rattle.tow_model.proofs.laws.head_is_one.Goals as goal
-
-pub returns : goal.returns
-returns c = head_is_one c.args.input.now

@@ -1,5 +1,0 @@
-use Rattle.tow_model.proofs.Kept.{is_no_tree_at_fault}
-use Rattle.tow_model.proofs.laws.no_tree_at_fault.Goals as goal
-
-pub returns : goal.returns
-returns c = is_no_tree_at_fault

@@ -1,5 +1,0 @@
-use Rattle.tow_model.proofs.WireLemmas.{wires_grow}
-use Rattle.tow_model.proofs.laws.wires_grow.Goals as goal
-
-pub returns : goal.returns
-returns c = wires_grow

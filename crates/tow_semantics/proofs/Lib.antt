@@ -1,0 +1,4 @@
+pub mod Playing
+pub mod Equations
+mod ExchangeExamples
+mod Rows

@@ -1,0 +1,13 @@
+pub mod Values
+pub mod Predicates
+pub mod Writing
+pub mod Steps
+pub mod Effects
+pub mod Files
+pub mod Pages
+pub mod Plans
+pub mod Walk
+pub mod Outcome
+pub mod Listeners
+pub mod Runs
+pub mod Sites

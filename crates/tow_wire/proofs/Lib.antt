@@ -1,0 +1,4 @@
+pub mod WireLemmas
+pub mod BlockLemmas
+pub mod SortLemmas
+mod WireExamples
