@@ -4,10 +4,11 @@ use Rattle.httpdate.specs.declared.parts.Parts.{Parts}
 use Rattle.httpdate.specs.Calendar.{days_of_years, days_of_months, weekday}
 use Rattle.httpdate.specs.Text.{imf_fixdate, two_digits, four_digits, month_name, time_of_day}
 use Rattle.httpdate.specs.Valid.{IsValid, parts_secs}
+use Rattle.tow_model.specs.declared.limits.TheConstants.{FIRST_UNDATED}
 
 -- the first second that no date shows: that of the year 10000
 abbrev pub first_undated : ℕ
-first_undated = 253402300800
+first_undated = FIRST_UNDATED
 
 -- the greatest k up to most at which f is at most n
 unfoldable pub last_up_to : (ℕ → ℕ) → ℕ → ℕ → ℕ

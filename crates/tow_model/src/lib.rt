@@ -9,6 +9,7 @@ pub mod attribute;
 pub mod bytes;
 pub mod content;
 pub mod laws;
+pub mod limits;
 pub mod list;
 pub mod no_memory;
 pub mod page;
