@@ -10,7 +10,8 @@ ghost use Rattle.tow_attr.specs.Finding.{cookie_pieces, cookies_of, is_cookie};
 use crate::binding::{name_of, value_of};
 use crate::fields::has_name;
 use std::alloc::AllocError;
-use tow_model::{Field, trimmed};
+use tow_model::Field;
+use tow_text::trimmed;
 
 /// Writes the value of the first cookie of the name. Takes memory for the value alone.
 pub(crate) fn append_cookie(

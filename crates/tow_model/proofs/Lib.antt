@@ -1,4 +1,3 @@
 pub mod DateProofs
-mod Blanks
 pub mod Resolving
 pub mod Spans

@@ -1,6 +1,6 @@
 -- Fields of a head, and bindings of a context.
 use Rattle.std.specs.Prelude.{Bool, not, List, [], ◌∷◌, ◌++◌, map, filter, find, flat_map, nat_lt, length, Option, option_map}
-use Rattle.std.specs.Str.{bytes_eq, str_eq_ignore_ascii_case}
+use Rattle.std.specs.Str.{byte, bytes_eq, str_eq_ignore_ascii_case}
 use Rattle.tow_model.specs.declared.request.Field.{Field}
 use Rattle.http_header.specs.Token.{lowercase}
 use Rattle.tow_model.specs.Texts.{Text, is_empty, cut_at, trimmed}
@@ -22,7 +22,7 @@ has name fields = nat_lt 0 (length (values_of name fields))
 
 -- the elements of a list field: its values cut at commas, trimmed, in lower case, empty ones dropped (RFC 9110, section 5.6.1)
 abbrev pub elements : List Text → List Text
-elements values = filter (λ e. not (is_empty e)) (map (λ e. lowercase (trimmed e)) (flat_map (cut_at 44) values))
+elements values = filter (λ e. not (is_empty e)) (map (λ e. lowercase (trimmed e)) (flat_map (cut_at (byte ",")) values))
 
 abbrev pub without : Text → List Field → List Field
 without name fields = filter (λ f. not (is_named name f)) fields

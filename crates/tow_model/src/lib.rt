@@ -17,7 +17,6 @@ pub mod predicate;
 pub mod record;
 pub mod request;
 pub mod statement;
-pub mod trimming;
 
 pub use account::{Account, Bound, Call, End, Line, Role, Verdict, What};
 pub use action::{Action, Target};
@@ -32,4 +31,3 @@ pub use predicate::{Predicate, Segment, Test};
 pub use record::{Choice, Listener, Record};
 pub use request::{Field, Framing, Request, Version};
 pub use statement::{Statement, Tree};
-pub use trimming::trimmed;

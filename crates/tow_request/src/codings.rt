@@ -11,7 +11,7 @@ ghost use Rattle.tow_request.specs.Refusals.{Sums};
 
 use crate::fields::has_name;
 use httparse::spans::HeaderSpan;
-use tow_model::trimmed;
+use tow_text::trimmed;
 
 /// What is known of a list of codings.
 #[derive(Clone, Copy)]

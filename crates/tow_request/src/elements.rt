@@ -11,7 +11,7 @@ ghost use Rattle.tow_request.specs.Lines.{elements_in, field_at, fields_at};
 
 use crate::fields::has_name;
 use httparse::spans::HeaderSpan;
-use tow_model::trimmed;
+use tow_text::trimmed;
 
 /// Whether some line of the name lists the word, both in any case.
 pub(crate) fn has_listed(bytes: &[u8], lines: &[HeaderSpan], name: &[u8], word: &[u8]) -> bool

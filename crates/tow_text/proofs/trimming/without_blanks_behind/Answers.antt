@@ -1,7 +1,7 @@
 use Rattle.std.proofs.Common.{◌≡◌, ◌-◌, ℕ, suc, take, drop, true, sym, ap, subst, ◌∙◌, arith}
 use Rattle.tow_model.specs.Texts.{is_blank}
-use Rattle.tow_model.proofs.Blanks.{ends_at, ends_nowhere}
-use Rattle.tow_model.proofs.trimming.without_blanks_behind.Goals as goal
+use Rattle.tow_text.proofs.Blanks.{ends_at, ends_nowhere}
+use Rattle.tow_text.proofs.trimming.without_blanks_behind.Goals as goal
 
 pub returns-then-not-is_blank : goal.returns-then-not-is_blank
 returns-then-not-is_blank c =

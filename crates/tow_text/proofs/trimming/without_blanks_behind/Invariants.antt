@@ -1,6 +1,6 @@
 use Rattle.std.proofs.Common.{◌≡◌, ◌≤◌, true, length, drop}
 use Rattle.tow_model.specs.Texts.{is_blank}
-use Rattle.tow_model.proofs.trimming.without_blanks_behind.Given as goal
+use Rattle.tow_text.proofs.trimming.without_blanks_behind.Given as goal
 
 abbrev pub invariant-loop-end : goal.invariant-loop-end
 invariant-loop-end l = record {
