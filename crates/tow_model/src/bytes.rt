@@ -1,3 +1,5 @@
+//! A list of bytes that contracts see as a list.
+
 ghost use Rattle.std.specs.Prelude.{◌≡◌, IfOk, length};
 
 use std::alloc::{AllocError, Global};
@@ -18,13 +20,14 @@ impl Model for Bytes {
 }
 
 impl Bytes {
-    /// Takes no memory.
+    /// The bytes of the vector. Takes no memory.
     pub fn from_vec(bytes: Vec<u8>) -> Bytes
         ensures { result ≡ bytes.items }
     {
         Bytes { bytes }
     }
 
+    /// A copy of the bytes. Takes memory for them.
     pub fn from_slice(alloc: Global, bytes: &[u8]) -> Result<Bytes, AllocError>
         ensures { IfOk result (λ b. b ≡ bytes.now) }
     {
@@ -32,7 +35,7 @@ impl Bytes {
         Ok(Bytes { bytes })
     }
 
-    /// Takes no memory.
+    /// Gives the vector back. Takes no memory.
     pub fn into_vec(self) -> Vec<u8>
         ensures { result.items ≡ self }
     {
@@ -40,12 +43,14 @@ impl Bytes {
         bytes
     }
 
+    /// The bytes.
     pub fn as_slice(&self) -> &[u8]
         ensures { result.now ≡ self.now }
     {
         self.bytes.as_slice()
     }
 
+    /// How many bytes there are.
     pub fn len(&self) -> usize
         ensures { result ≡ length self.now }
     {

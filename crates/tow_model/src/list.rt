@@ -1,3 +1,5 @@
+//! A list of items that contracts see as a list.
+
 ghost use Rattle.std.specs.Prelude.{◌≡◌, [], ◌∷◌, ◌++◌, ◌<◌, length, slice_get, OnOk, OnErr, OnSome};
 ghost use Rattle.std.specs.Option.{option_copied};
 
@@ -22,7 +24,7 @@ impl<T> Model for List<T> {
 }
 
 impl<T> List<T> {
-    /// Takes no memory.
+    /// The empty list. Takes no memory.
     pub fn new(alloc: Global) -> List<T>
         ensures { result ≡ [] }
     {
@@ -31,14 +33,14 @@ impl<T> List<T> {
         }
     }
 
-    /// Takes no memory.
+    /// The items of the vector. Takes no memory.
     pub fn from_vec(items: Vec<T>) -> List<T>
         ensures { result ≡ items.items }
     {
         List { items }
     }
 
-    /// Takes no memory.
+    /// Gives the vector back. Takes no memory.
     pub fn into_vec(self) -> Vec<T>
         ensures { result.items ≡ self }
     {
@@ -46,18 +48,21 @@ impl<T> List<T> {
         items
     }
 
+    /// The items.
     pub fn as_slice(&self) -> &[T]
         ensures { result.now ≡ self.now }
     {
         self.items.as_slice()
     }
 
+    /// How many items there are.
     pub fn len(&self) -> usize
         ensures { result ≡ length self.now }
     {
         self.items.len()
     }
 
+    /// The item at this place, from 0, if there is one.
     pub fn get(&self, at: usize) -> Option<&T>
         ensures value { option_copied result ≡ slice_get self.now at }
         ensures within { OnSome result (at < length self.now) }
@@ -67,6 +72,7 @@ impl<T> List<T> {
 }
 
 impl<T: Drop> List<T> {
+    /// Adds an item at the end. Takes memory; where there is none, the list is as it was.
     pub fn push(&mut self, item: T) -> Result<(), AllocError>
         ensures ok { OnOk result (self.new ≡ self.old ++ item ∷ []) }
         ensures err { OnErr result (self.new ≡ self.old) }

@@ -1,15 +1,18 @@
+//! What a statement asks of an exchange before it acts.
+
 use crate::attribute::Template;
 use crate::{Bytes, List};
 use sqlite_items::Boxed;
 
-/// A part of a path template.
+/// A part of a path template, between two `/`.
 #[derive(Debug, Drop)]
 pub enum Segment {
     Fixed(Bytes),
+    /// `{NAME}`, which binds the name to the segment that stands there.
     Bind(Bytes),
 }
 
-/// A predicate's call.
+/// A predicate's call with its parameters.
 #[derive(Debug, Drop)]
 pub enum Test {
     True,
@@ -22,6 +25,7 @@ pub enum Test {
         value: Template,
     },
     Regex {
+        /// The pattern's number in the order of the text, from 0.
         number: u32,
         pattern: Bytes,
         value: Template,
@@ -35,7 +39,7 @@ pub enum Test {
     Exists(Template),
 }
 
-/// What a statement asks before it goes on.
+/// A condition: tests joined by `not`, `and` and `or`.
 #[derive(Debug, Drop)]
 pub enum Predicate {
     Is(Test),
