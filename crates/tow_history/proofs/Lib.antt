@@ -1,0 +1,5 @@
+pub mod Sound
+pub mod Tickets
+pub mod Exchanges
+pub mod Counting
+mod Samples
