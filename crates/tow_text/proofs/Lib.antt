@@ -1,1 +1,4 @@
 mod Blanks
+mod Fronts
+mod Named
+mod Numbers
