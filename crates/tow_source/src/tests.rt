@@ -1,0 +1,3 @@
+mod drains;
+mod fixed;
+mod reading;
