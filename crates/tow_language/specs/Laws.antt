@@ -11,6 +11,9 @@ use Rattle.tow_model.specs.declared.statement.Statement.{Statement}
 use Rattle.tow_language.specs.declared.token.Token.{Token}
 use Rattle.tow_language.specs.Tokens.{Cuts, next_is}
 use Rattle.tow_language.specs.Raw.{RawList}
+use Rattle.tow_language.specs.declared.table.Handler.{Handler}
+use Rattle.tow_language.specs.declared.table.TestName.{TestName}
+use Rattle.tow_language.specs.Table.{handler_name, handler_named, test_name, test_named}
 use Rattle.tow_language.specs.Syntax.{Reads}
 use Rattle.tow_language.specs.Fault.{IsTreeOf, IsFault}
 use Rattle.tow_language.specs.Printed.{print_of}
@@ -31,6 +34,13 @@ OneFault = (text : List ℕ) (kind other : Kind) (place elsewhere : ℕ) → IsF
 -- a text with a fault has no tree
 abbrev pub NoTreeAtFault : Type 0
 NoTreeAtFault = (text : List ℕ) (kind : Kind) (place : ℕ) (tree : List Statement) → IsFault text kind place → IsTreeOf text tree → ⊥
+
+-- each handler and each predicate is found by its name
+abbrev pub HandlersAreNamed : Type 0
+HandlersAreNamed = (h : Handler) → handler_named (handler_name h) ≡ Some h
+
+abbrev pub PredicatesAreNamed : Type 0
+PredicatesAreNamed = (t : TestName) → test_named (test_name t) ≡ Some t
 
 -- the printed form of a tree that some text has, where it is short enough, is a text with that tree
 abbrev pub PrintReadsBack : Type 0

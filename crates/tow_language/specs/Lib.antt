@@ -1,6 +1,7 @@
 pub mod Tokens
 pub mod Templates
 pub mod Shapes
+pub mod Signatures
 pub mod Raw
 pub mod Symbols
 pub mod Grammar
@@ -10,4 +11,5 @@ pub mod Table
 pub mod Fit
 pub mod Fault
 pub mod Printed
+pub mod Kinds
 pub mod Laws

@@ -1,6 +1,6 @@
 //! Laws of the definitions, each the contract of a function without a body.
 
-ghost use Rattle.tow_language.specs.Laws.{OneCut, OneDerivation, OneFault, NoTreeAtFault};
+ghost use Rattle.tow_language.specs.Laws.{OneCut, OneDerivation, OneFault, NoTreeAtFault, HandlersAreNamed, PredicatesAreNamed};
 
 /// A text is cut into tokens in one way.
 pub fn one_cut()
@@ -20,4 +20,14 @@ pub fn one_fault()
 /// A text with a fault has no tree.
 pub fn no_tree_at_fault()
     ensures { NoTreeAtFault }
+{}
+
+/// Each handler is found by its name.
+pub fn handlers_are_named()
+    ensures { HandlersAreNamed }
+{}
+
+/// Each predicate is found by its name.
+pub fn predicates_are_named()
+    ensures { PredicatesAreNamed }
 {}

@@ -4,9 +4,11 @@
 
 pub mod kind;
 pub mod laws;
+pub mod signatures;
 pub mod table;
 pub mod token;
 
 pub use kind::Kind;
+pub use signatures::{HANDLERS, PREDICATES, Parameter, Signature, Standard};
 pub use table::{Given, Handler, Shape, TestName};
 pub use token::{Token, TokenKind};
