@@ -1,6 +1,7 @@
 ghost use Rattle.std.specs.Prelude.{◌≡◌, ◌<◌, ◌++◌, IfOk, OnOk, flat_map, take};
 ghost use Rattle.tow_model.specs.Dates.{first_undated};
-ghost use Rattle.tow_semantics.specs.Values.{longest_value, piece_of, value_of};
+ghost use Rattle.tow_semantics.specs.Values.{piece_of, value_of};
+ghost use Rattle.tow_model.specs.declared.limits.TheConstants.{MAX_VALUE_LEN};
 
 use crate::append::append_attribute;
 use std::alloc::{AllocError, Global};
@@ -37,8 +38,8 @@ fn append_pieces(
     moment: u64,
 ) -> Result<(), AllocError>
     requires dated { moment < first_undated }
-    ensures { OnOk result (take longest_value out.new.items
-        ≡ take longest_value (out.old.items ++ flat_map (λ p. piece_of p request.now exchange.now moment) pieces.now)) }
+    ensures { OnOk result (take MAX_VALUE_LEN out.new.items
+        ≡ take MAX_VALUE_LEN (out.old.items ++ flat_map (λ p. piece_of p request.now exchange.now moment) pieces.now)) }
 {
     for piece in pieces {
         if out.len() >= LONGEST_VALUE {

@@ -22,10 +22,11 @@ goes_by j q w = goes_on (record { number = j; request = q; content = no_content;
 not_invited : (expects : Bool) (long : Bool) (text : List ℕ) → expects ≡ false → (if (expects && false) && long then continue_text else []) ++ text ≡ text
 not_invited expects long text is = ap (λ (b : Bool). (if (b && false) && long then continue_text else []) ++ text) is
 
-answers_of : (run : Run) (j : ℕ) (q : Request) (x : Record) (a : Answer) (text : List ℕ)
-    → run.outcome q (run.moment 0 j) no_content [] ≡ record { outcome = settled x; left = [] } → q.expects ≡ false
+answers_of : (run : Run) (j : ℕ) (q : Request) (x : Record) (a : Answer) (text : List ℕ) (looked worked : Bool)
+    → run.outcome q (run.moment 0 j) no_content [] ≡ record { outcome = record (settled x) { looked = looked; worked = worked }; left = [] }
+    → q.expects ≡ false
     → a ≡ answer_of q j (run.moment 0 j) no_content (settled x) → text ≡ answer run.file q a → Answers run j q text a.close
-answers_of run j q x a text walked plain is whole = record {
+answers_of run j q x a text looked worked walked plain is whole = record {
   text_is = ap (text_by run j q) walked ∙ not_invited q.expects (not (is_too_long q.framing)) _ plain ∙ ap (answer run.file q) (sym is) ∙ sym whole;
   goes = ap (goes_by j q) walked ∙ ap (λ (b : Answer). not b.close) (sym is);
   leaves = ap (λ (w : Walked). w.left) walked;
@@ -36,7 +37,8 @@ pub site_answers : (tree : List Statement) (moments : ℕ → ℕ → ℕ) (j mo
     → Decides tree q moment x → moment ≡ moments 0 j → q.expects ≡ false → a ≡ answer_of q j moment no_content (settled x)
     → ((file : List ℕ → List ℕ) → text ≡ answer file q a) → Answers (run_of tree [] moments) j q text a.close
 site_answers tree moments j moment q x a text decides at plain is whole =
-    answers_of (run_of tree [] moments) j q x a text (subst (λ (m : ℕ). Decides tree q m x) at decides no_content []) plain
+    let settles = subst (λ (m : ℕ). Decides tree q m x) at decides no_content [] in
+    answers_of (run_of tree [] moments) j q x a text settles.looked settles.worked settles.is plain
     (is ∙ ap (λ (m : ℕ). answer_of q j m no_content (settled x)) at) (whole (run_of tree [] moments).file)
 
 always : (a c d e f : Bool) → (a || true || c || d || e || f) ≡ true

@@ -1,18 +1,17 @@
 //! The response fields that a text makes, under its rules.
 
-ghost use Rattle.std.specs.Prelude.{◌≡◌, ◌≤◌, ◌↔◌, ◌++◌, ◌∷◌, [], IsTrue, length};
+ghost use Rattle.std.specs.Prelude.{◌≡◌, ◌++◌, ◌∷◌, [], length, not};
 ghost use Rattle.tow_model.specs.Fields.{field, set_to, without};
-ghost use Rattle.tow_semantics.specs.Writing.{with_fields};
+ghost use Rattle.tow_model.specs.Texts.{Text};
+ghost use Rattle.tow_semantics.specs.Writing.{is_room, with_fields};
 ghost use Rattle.tow_effect.specs.Writes.{Writes};
 
 use crate::fields::{add_field, has_name, set_field};
 use crate::outcome::Assign;
 use httparse::is_header_value;
 use std::alloc::Global;
+use tow_model::limits::MAX_RESPONSE_FIELDS;
 use tow_model::{Bytes, Field, Record};
-
-/// How many response fields a text may make.
-const MOST_FIELDS: usize = 256;
 
 /// Sets the response field to the one value. Takes memory for its name and its place.
 pub(crate) fn write_field(alloc: Global, name: &[u8], value: Bytes, exchange: &mut Record) -> Assign
@@ -31,7 +30,7 @@ pub(crate) fn write_field(alloc: Global, name: &[u8], value: Bytes, exchange: &m
 pub(crate) fn write_more(alloc: Global, name: &[u8], value: Bytes, exchange: &mut Record) -> Assign
     ensures { Writes (with_fields value (exchange.old.fields ++ field name.now value ∷ []) exchange.old) result exchange.old exchange.new }
 {
-    if exchange.fields.len() >= MOST_FIELDS || !is_header_value(value.as_slice()) {
+    if exchange.fields.len() >= MAX_RESPONSE_FIELDS || !is_header_value(value.as_slice()) {
         return Assign::BadValue;
     }
     match add_field(alloc, &mut exchange.fields, name, value) {
@@ -40,11 +39,11 @@ pub(crate) fn write_more(alloc: Global, name: &[u8], value: Bytes, exchange: &mu
     }
 }
 
-/// Whether the fields of other names are as many as a text may make.
+/// Whether there is no room for one more field, and none of the name gives its place.
 fn is_full(fields: &[Field], name: &[u8]) -> bool
-    ensures { IsTrue result ↔ (256 ≤ length (without name.now fields.now)) }
+    ensures { (value : Text) → result ≡ not (is_room fields.now (set_to name.now value fields.now)) }
 {
-    fields.len() >= MOST_FIELDS && others_count(fields, name) >= MOST_FIELDS
+    fields.len() >= MAX_RESPONSE_FIELDS && others_count(fields, name) == fields.len()
 }
 
 /// How many fields have another name.

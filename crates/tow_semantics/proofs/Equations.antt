@@ -19,7 +19,7 @@ use Rattle.tow_semantics.specs.Walk.{Given, Notes, Answer, act_answer, walk_by, 
 pub holds_is : (t : Test) (q : Request) (x : Record) (m : ℕ) → holds_of (p.Is t) q x m ≡ held (test_of t q x m) x
 holds_is t q x m = ap (λ (h : Record → Held). h x) (ap (fold-Predicate (Record → Held) (holds_by q m)) (sym (p.rolls-Is t)) ∙ fold-roll-Predicate (Record → Held) (holds_by q m) (pf.Is t))
 
-pub walk_act : (g : Given) (a : Action) (s : Stand) (n : Notes) → walk_one g (st.Act a) s n ≡ act_answer g (effect_of a g.request s.state g.moment) (marked a s) n
+pub walk_act : (g : Given) (a : Action) (s : Stand) (n : Notes) → walk_one g (st.Act a) s n ≡ act_answer g (effect_of a g.request s.state g.moment) s (marked a s) n
 walk_act g a s n =
     ap (λ (w : Stand → Notes → Answer). w s n) (ap (walk_one g) (sym (st.rolls-Act a)) ∙ fold-roll-Statement (Stand → Notes → Answer) (walk_by g) (sf.Act a))
 

@@ -15,14 +15,14 @@ use Rattle.tow_model.specs.declared.attribute.Attribute.TheVariants as attribute
 use Rattle.tow_model.specs.declared.attribute.Piece.TheVariants as piece
 use Rattle.tow_model.specs.declared.record.Record.{Record}
 use Rattle.tow_model.specs.declared.record.Choice.TheVariants as choice
-use Rattle.tow_model.specs.declared.page.Page.TheVariants as page
 use Rattle.tow_model.specs.Texts.{Text}
 use Rattle.tow_model.specs.Fields.{field}
 use Rattle.tow_model.specs.Paths.{resolved, place_of, template_bindings}
 use Rattle.tow_semantics.specs.Values.{value_of, line_of}
 use Rattle.tow_semantics.specs.Predicates.{prefix_bindings}
 use Rattle.tow_semantics.specs.Steps.{start}
-use Rattle.tow_semantics.specs.Files.{Files, names_in}
+use Rattle.tow_semantics.specs.Files.{Files, AFile, ADirectory, Absent, is_map, look, names_in}
+use Rattle.tow_semantics.specs.Pages as page
 use Rattle.tow_semantics.specs.Pages.{found_page, listing_of, content_type}
 
 -- a GET of a path from 127.0.0.1, with these fields
@@ -125,6 +125,21 @@ control_bytes_are_shown = refl
 
 site : Files
 site = record { path = codes "/index.html"; second = 784111777; bytes = codes "<p>hello</p>" } ∷ record { path = codes "/d/b"; second = 0; bytes = [] } ∷ record { path = codes "/d/a/c"; second = 0; bytes = [] } ∷ record { path = codes "/d/a/d"; second = 0; bytes = [] } ∷ []
+
+the_site_is_a_map : is_map site ≡ true
+unfolding site
+the_site_is_a_map = refl
+
+-- a file below a file
+no_map : is_map (record { path = codes "/a"; second = 0; bytes = [] } ∷ record { path = codes "/a/b"; second = 0; bytes = [] } ∷ []) ≡ false
+no_map = refl
+
+the_root_of_nothing : look [] (codes "/") ≡ Absent
+the_root_of_nothing = refl
+
+looks : (look site (codes "/") ≡ ADirectory) × (look site (codes "/d/b") ≡ AFile 0 0) × (look site (codes "/d/a") ≡ ADirectory) × (look site (codes "/e") ≡ Absent)
+unfolding site
+looks = (refl, refl, refl, refl)
 
 a_welcome_file : found_page site [] false (get (codes "/") []) (start (get (codes "/") [])) ≡ page.Serve (codes "/index.html") 12 784111777
 unfolding site get is_utf8 chars encode

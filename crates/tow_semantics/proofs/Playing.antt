@@ -2,23 +2,25 @@
 use Rattle.std.proofs.Common.{◌≡◌, ℕ, zero, suc, Bool, true, false, List, [], ◌∷◌, map, Option, Some, None, if◌then◌else◌, refl, sym, ap, ◌∙◌}
 use Rattle.tow_model.specs.declared.account.Verdict.{Verdict}
 use Rattle.tow_model.specs.declared.content.Content.{Content}
+use Rattle.tow_model.specs.declared.limits.TheConstants.{MAX_RESTARTS}
 use Rattle.tow_model.specs.declared.statement.Statement.{Statement, fold-roll-Statement, roll-Statement, map-Statement, ind-Statement}
 use Rattle.tow_model.specs.declared.statement.Statement.TheOpen.{Statement-F, When, Act, Block}
 use Rattle.tow_semantics.specs.Predicates.{holds_of}
 use Rattle.tow_semantics.specs.Steps.{Step, Go, Stop, answered, on_verdict, on_content}
 use Rattle.tow_semantics.specs.Effects.{Effect, Takes, Asks, ReadsContent, LooksUp, BeginsAgain, GoesToDefault, effect_of}
-use Rattle.tow_semantics.specs.Pages.{found_page, page_of, on_page}
-use Rattle.tow_semantics.specs.Plans.{Stand, Way, Exits, moved, take_step, act, marked, plan_all, plan_by, plan_of, over, default_way, passes, most_restarts, without_context}
+use Rattle.tow_semantics.specs.Pages.{found_page, page_of, on_found}
+use Rattle.tow_semantics.specs.Plans.{Stand, Way, Exits, moved, tested, take_step, act, marked, plan_all, plan_by, plan_of, over, default_way, passes, without_context}
 use Rattle.tow_semantics.specs.Walk.{Given, Notes, Answer, Next, Stopped, ToDefault, Restarted, Waiting, and_then, step_answer, enter, read, act_answer, walk_all, walk_by, walk_one, walk}
-use Rattle.tow_semantics.specs.Outcome.{Outcome, decided, undecided, default_stand, by_default, after_walk, walks, opening, played, OutcomeIsPlayed}
+use Rattle.tow_semantics.specs.Runs.{Walked}
+use Rattle.tow_semantics.specs.Outcome.{decided, undecided, default_stand, by_default, after_walk, walks, opening, played, OutcomeIsPlayed}
 
 -- what an answer of the walk leads to, where the plan goes the next way
-abbrev onward : Given → Exits → Way → Answer → Outcome
+abbrev onward : Given → Exits → Way → Answer → Walked
 onward g e next (Next s n) = played g (next s) n
 onward g e next (Stopped s n) = decided s n
 onward g e next (ToDefault s n) = played g (e.default s) n
 onward g e next (Restarted s n) = played g (e.again s) n
-onward g e next (Waiting s n) = undecided s n
+onward g e next (Waiting w s n) = undecided w s n
 
 abbrev Plays : Given → Exits → (Way → Way) → (Stand → Notes → Answer) → Type 0
 Plays g e p w = (next : Way) (s : Stand) (n : Notes) → played g (p next s) n ≡ onward g e next (w s n)
@@ -28,24 +30,25 @@ step_plays : (g : Given) (e : Exits) (step : Step) (next : Way) (s : Stand) (n :
 step_plays g e (Go x) next s n = refl
 step_plays g e (Stop x) next s n = refl
 
-asks_plays : (g : Given) (e : Exits) (limit : ℕ) (next : Way) (s : Stand) (n : Notes) (vs : List Verdict) →
-    played g (act e (Asks limit) next s) (record n { left = vs }) ≡ onward g e next (enter limit vs s (record n { left = vs }))
-asks_plays g e limit next s n [] = refl
-asks_plays g e limit next s n (v ∷ vs) = step_plays g e (on_verdict limit v s.state) next s _
+asks_plays : (g : Given) (e : Exits) (limit : ℕ) (next : Way) (s t : Stand) (n : Notes) (vs : List Verdict) →
+    played g (act e (Asks limit) next s t) (record n { left = vs }) ≡ onward g e next (enter limit vs s t (record n { left = vs }))
+asks_plays g e limit next s t n [] = refl
+asks_plays g e limit next s t n (v ∷ vs) = step_plays g e (on_verdict limit v s.state) next t _
 
-reads_plays : (g : Given) (e : Exits) (next : Way) (s : Stand) (n : Notes) (c : Option Content) →
-    played (record g { content = c }) (act e ReadsContent next s) n ≡ onward (record g { content = c }) e next (read c s (record n { asked = true }))
-reads_plays g e next s n None = refl
-reads_plays g e next s n (Some c) = step_plays (record g { content = Some c }) e (on_content c s.state) next s _
+reads_plays : (g : Given) (e : Exits) (next : Way) (s t : Stand) (n : Notes) (c : Option Content) →
+    played (record g { content = c }) (act e ReadsContent next s t) n
+    ≡ onward (record g { content = c }) e next (read c s t (record n { asked = true }))
+reads_plays g e next s t n None = refl
+reads_plays g e next s t n (Some c) = step_plays (record g { content = Some c }) e (on_content c s.state) next t _
 
-act_plays : (g : Given) (e : Exits) (effect : Effect) (next : Way) (s : Stand) (n : Notes) →
-    played g (act e effect next s) n ≡ onward g e next (act_answer g effect s n)
-act_plays g e (Takes step) next s n = step_plays g e step next s n
-act_plays g e (Asks limit) next s n = asks_plays g e limit next s n n.left
-act_plays g e ReadsContent next s n = reads_plays g e next s n g.content
-act_plays g e (LooksUp location listing) next s n = step_plays g e (page_of g.files location listing g.request s.state) next s _
-act_plays g e BeginsAgain next s n = refl
-act_plays g e GoesToDefault next s n = refl
+act_plays : (g : Given) (e : Exits) (effect : Effect) (next : Way) (s t : Stand) (n : Notes) →
+    played g (act e effect next s t) n ≡ onward g e next (act_answer g effect s t n)
+act_plays g e (Takes step) next s t n = step_plays g e step next t n
+act_plays g e (Asks limit) next s t n = asks_plays g e limit next s t n n.left
+act_plays g e ReadsContent next s t n = reads_plays g e next s t n g.content
+act_plays g e (LooksUp location listing) next s t n = step_plays g e (page_of g.files location listing g.request s.state) next t _
+act_plays g e BeginsAgain next s t n = refl
+act_plays g e GoesToDefault next s t n = refl
 
 picks : (g : Given) (e : Exits) (b : Bool) (p r : Way → Way) (w v : Stand → Notes → Answer) → Plays g e p w → Plays g e r v →
     (next : Way) (s : Stand) (n : Notes) → played g ((if b then p next else r next) s) n ≡ onward g e next ((if b then w else v) s n)
@@ -59,7 +62,7 @@ goes_on g e p w plays next (Next s n) = plays next s n
 goes_on g e p w plays next (Stopped s n) = refl
 goes_on g e p w plays next (ToDefault s n) = refl
 goes_on g e p w plays next (Restarted s n) = refl
-goes_on g e p w plays next (Waiting s n) = refl
+goes_on g e p w plays next (Waiting v s n) = refl
 
 module _ (g : Given) (e : Exits) where
   abbrev plan_here : Statement → Way → Way
@@ -79,11 +82,11 @@ module _ (g : Given) (e : Exits) where
       (walk_by g (map-Statement Statement (Stand → Notes → Answer) (walk_one g) (map-Statement Good Statement (λ k. k.0) y)))
   layer (When test a None) next s n =
       let h = holds_of test g.request s.state g.moment in
-      picks g e h.holds (plan_here a.0) (λ k. k) (walk_one g a.0) (λ t k. Next t k) a.1 (λ t k i. refl) next (moved h.state s) n
+      picks g e h.holds (plan_here a.0) (λ k. k) (walk_one g a.0) (λ t k. Next t k) a.1 (λ t k i. refl) next (tested h.state s) n
   layer (When test a (Some b)) next s n =
       let h = holds_of test g.request s.state g.moment in
-      picks g e h.holds (plan_here a.0) (plan_here b.0) (walk_one g a.0) (walk_one g b.0) a.1 b.1 next (moved h.state s) n
-  layer (Act a) next s n = act_plays g e (effect_of a g.request s.state g.moment) next (marked a s) n
+      picks g e h.holds (plan_here a.0) (plan_here b.0) (walk_one g a.0) (walk_one g b.0) a.1 b.1 next (tested h.state s) n
+  layer (Act a) next s n = act_plays g e (effect_of a g.request s.state g.moment) next s (marked a s) n
   layer (Block parts) next s n = all_good parts next s n
 
   same : (p r : Way → Way) (w v : Stand → Notes → Answer) → p ≡ r → w ≡ v → Plays g e r v → Plays g e p w
@@ -109,15 +112,15 @@ default_step g (Go x) s n = refl
 default_step g (Stop x) s n = refl
 
 default_plays : (g : Given) (s : Stand) (n : Notes) → played g (default_way s) n ≡ by_default g s n
-default_plays g s n = default_step g (on_page (found_page g.files [] false g.request s.state) s.state) s _
+default_plays g s n = default_step g (on_found (found_page g.files [] false g.request s.state) s.state) s _
 
-ends : (g : Given) (again : Way) (after : Stand → Notes → Outcome) → ((s : Stand) (n : Notes) → played g (again s) n ≡ after s n) →
+ends : (g : Given) (again : Way) (after : Stand → Notes → Walked) → ((s : Stand) (n : Notes) → played g (again s) n ≡ after s n) →
     (a : Answer) → onward g (record { again = again; default = default_way }) default_way a ≡ after_walk g after a
 ends g again after plays (Next s n) = default_plays g s n
 ends g again after plays (Stopped s n) = refl
 ends g again after plays (ToDefault s n) = default_plays g s n
 ends g again after plays (Restarted s n) = plays s n
-ends g again after plays (Waiting s n) = refl
+ends g again after plays (Waiting w s n) = refl
 
 pub passes_play : (tree : List Statement) (g : Given) (left : ℕ) (s : Stand) (n : Notes) →
     played g (passes tree g.request g.moment left s) n ≡ walks g tree left s n
@@ -131,4 +134,4 @@ passes_play tree g (suc left) s n =
     ∙ ends g again (λ t k. walks g tree left (without_context t) k) (λ t k. passes_play tree g left (without_context t) k) (walk g tree s n)
 
 pub outcome_is_played : OutcomeIsPlayed
-outcome_is_played tree g verdicts = sym (passes_play tree g most_restarts _ (opening verdicts))
+outcome_is_played tree g verdicts = sym (passes_play tree g MAX_RESTARTS _ (opening verdicts))

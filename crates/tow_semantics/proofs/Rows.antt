@@ -22,9 +22,10 @@ use Rattle.tow_model.specs.declared.account.Verdict.TheVariants as verdict
 use Rattle.tow_model.specs.Texts.{Text}
 use Rattle.tow_model.specs.Fields.{field}
 use Rattle.tow_semantics.specs.Steps.{start, answered}
-use Rattle.tow_semantics.specs.Plans.{Stand, moved}
+use Rattle.tow_semantics.specs.Plans.{Stand, moved, opening_stand}
+use Rattle.tow_semantics.specs.Runs.{Walked, blocks}
 use Rattle.tow_semantics.specs.Walk.{Given, Notes}
-use Rattle.tow_semantics.specs.Outcome.{Outcome, decided, outcome, walks, opening}
+use Rattle.tow_semantics.specs.Outcome.{decided, outcome, walks, opening}
 use Rattle.tow_semantics.specs.Listeners.{lines, calls}
 use Rattle.tow_semantics.proofs.Equations.{holds_is, walk_act, walk_when, actions_act}
 
@@ -48,8 +49,8 @@ abbrev given : Text → Given
 given path = record { request = get path; moment = 0; files = []; content = Some (content.Whole []) }
 
 -- where an exchange begins
-abbrev opening_stand : Text → Stand
-opening_stand path = record { state = start (get path); blocked = false }
+abbrev at_start : Text → Stand
+at_start path = opening_stand (get path)
 
 -- nothing noted, but whether a page was looked for
 abbrev noted : Bool → Notes
@@ -59,36 +60,36 @@ noted looked = record { left = []; entries = []; asked = false; looked = looked 
 hi : List Statement
 hi = statement.When (predicate.Is (test.Path (codes "/hi" ∷ []))) (statement.Act (action.ResponseCode 204)) None ∷ []
 
-row_hi : outcome hi (given (codes "/hi")) [] ≡ decided (moved (answered 204 (start (get (codes "/hi")))) (opening_stand (codes "/hi"))) (noted false)
+row_hi : outcome hi (given (codes "/hi")) [] ≡ decided (moved (answered 204 (start (get (codes "/hi")))) (at_start (codes "/hi"))) (noted false)
 unfolding hi
 row_hi = rw (walk_when, holds_is, walk_act) refl
 
-row_empty_site : outcome [] (given (codes "/")) [] ≡ decided (moved (answered 404 (start (get (codes "/")))) (opening_stand (codes "/"))) (noted true)
+row_empty_site : outcome [] (given (codes "/")) [] ≡ decided (moved (answered 404 (start (get (codes "/")))) (at_start (codes "/"))) (noted true)
 unfolding is_utf8 chars encode
 row_empty_site = refl
 
 -- `restart`, where so many restarts are left
-restarts_end : (n : ℕ) → walks (given (codes "/")) (statement.Act action.Restart ∷ []) n (opening_stand (codes "/")) (opening []) ≡ decided (moved (answered 500 (start (get (codes "/")))) (opening_stand (codes "/"))) (noted false)
+restarts_end : (n : ℕ) → walks (given (codes "/")) (statement.Act action.Restart ∷ []) n (at_start (codes "/")) (opening []) ≡ decided (moved (answered 500 (start (get (codes "/")))) (at_start (codes "/"))) (noted false)
 restarts_end zero = rw walk_act refl
 restarts_end (suc n) = rw walk_act (restarts_end n)
 
-row_restart : outcome (statement.Act action.Restart ∷ []) (given (codes "/")) [] ≡ decided (moved (answered 500 (start (get (codes "/")))) (opening_stand (codes "/"))) (noted false)
+row_restart : outcome (statement.Act action.Restart ∷ []) (given (codes "/")) [] ≡ decided (moved (answered 500 (start (get (codes "/")))) (at_start (codes "/"))) (noted false)
 row_restart = restarts_end 16
 
 -- `request-limit(1)`, `restart`
 limited : List Statement
 limited = statement.Act (action.RequestLimit 0 1) ∷ statement.Act action.Restart ∷ []
 
-limited_end : Outcome
+limited_end : Walked
 limited_end =
-    decided (moved (record (answered 503 (start (get (codes "/")))) { listeners = listener.Leave 0 ∷ [] }) (opening_stand (codes "/")))
-    (record { left = []; entries = (0, verdict.Admitted) ∷ (0, verdict.Refused) ∷ []; asked = false; looked = false })
+    decided (moved (record (answered 503 (start (get (codes "/")))) { listeners = listener.Leave 0 ∷ [] }) (at_start (codes "/")))
+    (record { left = []; entries = record { limit = 0; verdict = verdict.Admitted } ∷ record { limit = 0; verdict = verdict.Refused } ∷ []; asked = false; looked = false })
 
 row_limit_restart : outcome limited (given (codes "/")) (verdict.Admitted ∷ verdict.Refused ∷ []) ≡ limited_end
 unfolding limited limited_end
 row_limit_restart = rw (walk_act, walk_act, walk_act) refl
 
-row_limit_restart_calls : calls 1 limited_end ≡
+row_limit_restart_calls : calls 1 limited_end.outcome ≡
     record { limit = 0; request = 1; what = what.Enter verdict.Admitted } ∷ record { limit = 0; request = 1; what = what.Enter verdict.Refused }
     ∷ record { limit = 0; request = 1; what = what.Leave } ∷ []
 unfolding limited_end
@@ -101,7 +102,7 @@ logged_twice =
     ∷ statement.Act (action.AccessLog 1 (piece.Literal (codes "b ") ∷ piece.Value attribute.Status ∷ []))
     ∷ statement.Act (action.ResponseCode 204) ∷ []
 
-row_log_order : lines logged_twice 0 1 (get (codes "/")) 0 (outcome logged_twice (given (codes "/")) []).at.state ≡
+row_log_order : lines logged_twice 0 1 (get (codes "/")) 0 (outcome logged_twice (given (codes "/")) []).outcome.state ≡
     record { connection = 0; request = 1; number = 1; text = codes "b 204" }
     ∷ record { connection = 0; request = 1; number = 0; text = codes "a 204" } ∷ []
 unfolding logged_twice digits
@@ -113,15 +114,15 @@ remaining =
     statement.When (predicate.Is (test.Prefix (codes "/foo" ∷ [])))
     (statement.Act (action.Set (target.ResponseField (codes "x-r")) (piece.Value (attribute.Context (codes "remaining")) ∷ []))) None ∷ []
 
-row_remaining : (outcome remaining (given (codes "/foo/bar")) []).at.state.fields ≡ field (codes "x-r") (codes "/bar") ∷ []
+row_remaining : (outcome remaining (given (codes "/foo/bar")) []).outcome.state.fields ≡ field (codes "x-r") (codes "/bar") ∷ []
 unfolding remaining is_utf8 chars encode
 row_remaining = rw (walk_when, holds_is, walk_act) refl
 
-row_remaining_empty : (outcome remaining (given (codes "/foo")) []).at.state.fields ≡ field (codes "x-r") [] ∷ []
+row_remaining_empty : (outcome remaining (given (codes "/foo")) []).outcome.state.fields ≡ field (codes "x-r") [] ∷ []
 unfolding remaining is_utf8 chars encode
 row_remaining_empty = rw (walk_when, holds_is, walk_act) refl
 
-row_remaining_not : (outcome remaining (given (codes "/foobar")) []).at.state.fields ≡ []
+row_remaining_not : (outcome remaining (given (codes "/foobar")) []).outcome.state.fields ≡ []
 unfolding remaining is_utf8 chars encode
 row_remaining_not = rw (walk_when, holds_is) refl
 
@@ -133,10 +134,23 @@ templated =
     (statement.Act (action.Header (codes "x-id") (piece.Value (attribute.Context (codes "id")) ∷ []) true)) None
     ∷ statement.Act (action.ResponseCode 200) ∷ []
 
-row_template : (outcome templated (given (codes "/u/7")) []).at.state.fields ≡ field (codes "x-id") (codes "7") ∷ []
+row_template : (outcome templated (given (codes "/u/7")) []).outcome.state.fields ≡ field (codes "x-id") (codes "7") ∷ []
 unfolding templated
 row_template = rw (walk_when, holds_is, walk_act, walk_act) refl
 
-row_template_not : (outcome templated (given (codes "/u/")) []).at.state.fields ≡ []
+row_template_not : (outcome templated (given (codes "/u/")) []).outcome.state.fields ≡ []
 unfolding templated
 row_template_not = rw (walk_when, holds_is, walk_act) refl
+
+-- `blocking`, `request-limit(1)`
+limited_work : List Statement
+limited_work = statement.Act action.Blocking ∷ statement.Act (action.RequestLimit 0 1) ∷ []
+
+-- an exchange that waits after its `blocking` has taken no step of a worker yet
+row_wait_after_blocking : blocks (outcome limited_work (given (codes "/")) []).outcome ≡ false
+unfolding limited_work
+row_wait_after_blocking = rw (walk_act, walk_act) refl
+
+row_refused_after_blocking : blocks (outcome limited_work (given (codes "/")) (verdict.Refused ∷ [])).outcome ≡ true
+unfolding limited_work
+row_refused_after_blocking = rw (walk_act, walk_act) refl

@@ -20,7 +20,7 @@ pub data Effect : Type 0 where
   -- enters a limit
   Asks : ℕ → Effect
   ReadsContent : Effect
-  -- looks for a page behind a location, listing or not
+  -- looks for a page after a location, listing or not
   LooksUp : Text → Bool → Effect
   BeginsAgain : Effect
   GoesToDefault : Effect
@@ -28,7 +28,7 @@ pub data Effect : Type 0 where
 abbrev pub write : Target → List Piece → Request → Record → ℕ → Record
 write target value q x m = or_unchanged (assigned target (value_of value q x m) x) x
 
--- the fields with the value in place of the name's values, or behind them
+-- the fields with the value in place of the name's values, or after all of them
 abbrev pub with_header : Bool → Text → Text → List Field → List Field
 with_header true name value fields = set_to name value fields
 with_header false name value fields = fields ++ field name value ∷ []

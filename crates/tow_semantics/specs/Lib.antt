@@ -6,8 +6,9 @@ pub mod Effects
 pub mod Files
 pub mod Pages
 pub mod Plans
+pub mod Runs
 pub mod Walk
 pub mod Outcome
 pub mod Listeners
-pub mod Runs
 pub mod Sites
+pub mod Laws

@@ -14,9 +14,8 @@ use Rattle.tow_model.specs.declared.statement.Statement.{Statement, fold-Stateme
 use Rattle.tow_model.specs.declared.statement.Statement.TheOpen.{Statement-F, When, Act, Block}
 use Rattle.tow_model.specs.declared.attribute.Piece.{Piece}
 use Rattle.tow_model.specs.declared.account.Bound.{Bound}
-use Rattle.tow_model.specs.declared.account.Verdict.{Verdict}
 use Rattle.tow_semantics.specs.Values.{line_of}
-use Rattle.tow_semantics.specs.Outcome.{Outcome}
+use Rattle.tow_semantics.specs.Runs.{Entry, Ending}
 
 -- THE ACTIONS OF A TEXT
 
@@ -69,9 +68,9 @@ abbrev pub leaving : ℕ → Listener → Option Call
 leaving j (Leave limit) = Some (record { limit = limit; request = j; what = what.Leave })
 leaving j (Log number) = None
 
-abbrev pub entering : ℕ → ℕ × Verdict → Call
-entering j e = record { limit = e.0; request = j; what = what.Enter e.1 }
+abbrev pub entering : ℕ → Entry → Call
+entering j e = record { limit = e.limit; request = j; what = what.Enter e.verdict }
 
 -- the calls of limits: the entries in the order of the walk, and then the leavings of the listeners
-abbrev pub calls : ℕ → Outcome → List Call
-calls j o = map (entering j) o.notes.entries ++ filter_map (leaving j) (reverse o.at.state.listeners)
+abbrev pub calls : ℕ → Ending → List Call
+calls j o = map (entering j) o.entries ++ filter_map (leaving j) (reverse o.state.listeners)

@@ -9,7 +9,7 @@ use Rattle.tow_model.specs.declared.request.Request.{Request}
 use Rattle.tow_model.specs.declared.record.Record.{Record}
 use Rattle.tow_model.specs.declared.record.Choice.TheVariants as choice
 use Rattle.tow_model.specs.declared.page.Page.{Page}
-use Rattle.tow_model.specs.declared.page.Page.TheVariants.{Serve, Redirect, Listing, Forbidden, NotModified, NotFound, BadMethod, FolderFault, NoMemory}
+use Rattle.tow_model.specs.declared.page.Page.TheVariants as pages
 use Rattle.tow_model.specs.Texts.{Text, is_empty, is_among, begins_with, ends_in, before, after, cut_at, but_last, escaped, is_unreserved, is_visible}
 use Rattle.tow_model.specs.Fields.{values_of, without, set_to}
 use Rattle.tow_model.specs.Paths.{slash}
@@ -19,6 +19,30 @@ use Rattle.tow_semantics.specs.Effects.{redirected, not_allowed}
 use Rattle.tow_semantics.specs.Files.{File, Files, Name, file_at, is_directory, names_in}
 
 -- WHAT A LOOK FINDS
+
+-- What is found where neither the folder nor memory fails. A second counts from 1970.
+pub data Found : Type 0 where
+  -- a file, by its path in the folder, with its length and its second
+  Serve : Text → ℕ → ℕ → Found
+  -- a directory without its `/`: the address with it
+  Redirect : Text → Found
+  -- the page of a directory
+  Listing : Text → Found
+  Forbidden : Found
+  -- the client has the file of this second as it is
+  NotModified : ℕ → Found
+  NotFound : Found
+  BadMethod : Found
+
+-- as code gives it; a fault is none of these
+abbrev pub page_for : Found → Page
+page_for (Serve path len second) = pages.Serve path len second
+page_for (Redirect location) = pages.Redirect location
+page_for (Listing bytes) = pages.Listing bytes
+page_for Forbidden = pages.Forbidden
+page_for (NotModified second) = pages.NotModified second
+page_for NotFound = pages.NotFound
+page_for BadMethod = pages.BadMethod
 
 -- a path that can be looked up: UTF-8, from the root on, without NUL and without an empty segment but the last
 abbrev pub is_servable : Text → Bool
@@ -40,7 +64,7 @@ is_unchanged q x second =
     x.status == 200 && no_values (values_of (codes "if-none-match") q.fields)
     && is_not_later second (values_of (codes "if-modified-since") q.fields)
 
-abbrev pub served : Request → Record → File → Page
+abbrev pub served : Request → Record → File → Found
 served q x f = if is_unchanged q x f.second then NotModified f.second else Serve f.path (length f.bytes) f.second
 
 -- the record's path as a directory, with the query
@@ -49,7 +73,7 @@ directory_location x =
     escaped (λ b. is_unreserved b || b == slash) x.path ++ codes "/"
     ++ unwrap_or (option_map (λ query. codes "?" ++ escaped is_visible query) x.query) []
 
-abbrev pub file_page : Files → Request → Record → Text → Page
+abbrev pub file_page : Files → Request → Record → Text → Found
 file_page files q x path =
     unwrap_or (option_map (served q x) (file_at files path))
     (if is_directory files (path ++ codes "/") then Redirect (directory_location x) else NotFound)
@@ -65,7 +89,7 @@ abbrev pub html : Text → Text
 html text = flat_map html_byte text
 
 abbrev pub line : Text → Text
-line text = text ++ 10 ∷ []
+line text = text ++ codes "\n"
 
 abbrev pub name_line : Name → Text
 name_line n =
@@ -86,7 +110,7 @@ abbrev pub welcome_file : Files → Text → List Text → Option File
 welcome_file files directory [] = None
 welcome_file files directory (n ∷ ns) = option_or (file_at files (directory ++ n)) (welcome_file files directory ns)
 
-abbrev pub directory_page : Files → Bool → Request → Record → Text → Page
+abbrev pub directory_page : Files → Bool → Request → Record → Text → Found
 directory_page files listing q x directory =
     if is_directory files directory
     then unwrap_or (option_map (served q x) (welcome_file files directory welcome_names))
@@ -94,7 +118,7 @@ directory_page files listing q x directory =
     else NotFound
 
 -- what the whole map has at the location, followed by the record's path
-abbrev pub found_page : Files → Text → Bool → Request → Record → Page
+abbrev pub found_page : Files → Text → Bool → Request → Record → Found
 found_page files location listing q x =
     let path = location ++ x.path in
     if not (is_among q.method (codes "GET" ∷ codes "HEAD" ∷ [])) then BadMethod
@@ -119,7 +143,7 @@ type_of_suffix suffix =
     else (if bytes_eq suffix (codes "pdf") then codes "application/pdf"
     else codes "application/octet-stream"))))))))))
 
--- what follows the last c, where there is one
+-- what follows the last c, if there is one
 abbrev pub last_after : ℕ → Text → Option Text
 last_after c text = option_map (λ rest. reverse (before c (reverse text))) (after c (reverse text))
 
@@ -127,29 +151,27 @@ abbrev pub content_type : Text → Text
 content_type path =
     type_of_suffix (str_to_ascii_lowercase (unwrap_or (last_after (byte ".") (unwrap_or (last_after slash path) path)) []))
 
--- a content type where the record has none
+-- a content type if the record has none
 abbrev pub typed : Text → List Field → List Field
 typed value fields =
     elim (values_of (codes "content-type") fields) [ [] ↦ set_to (codes "content-type") value fields | _ ↦ fields ]
 
--- the moment of the last change, where a date can show it
+-- the moment of the last change, if a date can show it
 abbrev pub dated : ℕ → List Field → List Field
 dated second fields = if nat_lt second first_undated then set_to (codes "last-modified") (date_of second) fields else fields
 
-abbrev pub on_page : Page → Record → Step
-on_page (Serve path len second) x =
+abbrev pub on_found : Found → Record → Step
+on_found (Serve path len second) x =
     Stop (record x { fields = dated second (typed (content_type path) x.fields); choice = choice.File path len })
-on_page (Redirect location) x = Stop (redirected location x)
-on_page (Listing bytes) x =
+on_found (Redirect location) x = Stop (redirected location x)
+on_found (Listing bytes) x =
     Stop (record x { fields = typed (codes "text/html; charset=utf-8") x.fields; choice = choice.Listing bytes })
-on_page Forbidden x = Stop (answered 403 x)
-on_page (NotModified second) x =
+on_found Forbidden x = Stop (answered 403 x)
+on_found (NotModified second) x =
     Stop (answered 304 (record x { fields = dated second (without (codes "content-type") x.fields) }))
-on_page NotFound x = Go x
-on_page BadMethod x = Stop (not_allowed (codes "GET" ∷ codes "HEAD" ∷ []) x)
-on_page FolderFault x = Go x
-on_page NoMemory x = Go x
+on_found NotFound x = Go x
+on_found BadMethod x = Stop (not_allowed (codes "GET" ∷ codes "HEAD" ∷ []) x)
 
--- goes on where nothing is found, and else stops
+-- goes on if nothing is found, and else stops
 abbrev pub page_of : Files → Text → Bool → Request → Record → Step
-page_of files location listing q x = on_page (found_page files location listing q x) x
+page_of files location listing q x = on_found (found_page files location listing q x) x

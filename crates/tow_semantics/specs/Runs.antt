@@ -1,5 +1,5 @@
 -- What a request's exchange ends with, and what the answers of a connection rest on.
-use Rattle.std.specs.Prelude.{◌≡◌, ◌≢◌, ℕ, Bool, true, List, ◌++◌, Option, Some, is_none}
+use Rattle.std.specs.Prelude.{◌≡◌, ◌≢◌, ℕ, Bool, true, ◌||◌, List, ◌++◌, Option, Some, is_none}
 use Rattle.tow_model.specs.declared.request.Request.{Request}
 use Rattle.tow_model.specs.declared.record.Record.{Record}
 use Rattle.tow_model.specs.declared.content.Content.{Content}
@@ -15,18 +15,30 @@ pub data Wait : Type 0 where
   for_verdict : Wait
   for_content : Wait
 
--- The record at its end or at its wait, the entries made, whether content was asked for, and what it waits for, if
--- anything.
+-- How an exchange ends, or how far it comes if it waits.
 pub record Ending : Type 0 where
+  -- the record at its end, or where it waits
   pub state : Record
+  -- the verdicts of limits, in the order of the walk
   pub entries : List Entry
+  -- it asked for the request's content
   pub asked : Bool
+  -- it looked for a page
+  pub looked : Bool
+  -- it took a step after a `blocking`
+  pub worked : Bool
+  -- what it waits for, if anything
   pub waits : Option Wait
 
+-- its answer is decided
 abbrev pub is_decided : Ending → Bool
 is_decided o = is_none o.waits
 
--- an outcome, and the verdicts that it leaves
+-- some step of it was a worker's
+abbrev pub blocks : Ending → Bool
+blocks o = o.looked || o.worked
+
+-- how an exchange ends, and the verdicts that it leaves
 pub record Walked : Type 0 where
   pub outcome : Ending
   pub left : List Verdict
@@ -39,10 +51,8 @@ pub record Run : Type 0 where
   pub file : List ℕ → List ℕ
   -- the moment of request j of connection k
   pub moment : ℕ → ℕ → ℕ
-  -- the line of log n for a request, a moment and a record
-  pub line : ℕ → Request → ℕ → Record → List ℕ
 
--- Further verdicts change an outcome only where it waits for one, and what was asked for stays asked for.
+-- Further verdicts change an outcome only if it waits for one, and what was asked for stays asked for.
 pub record GoesOn (old new : Walked) (more : List Verdict) : Type 0 where
   pub settled : old.outcome.waits ≢ Some for_verdict → new ≡ record old { left = old.left ++ more }
   pub asked : old.outcome.asked ≡ true → new.outcome.asked ≡ true

@@ -16,6 +16,7 @@ use Rattle.tow_model.specs.declared.attribute.Attribute.{Attribute}
 use Rattle.tow_model.specs.declared.attribute.Attribute.TheVariants.{Method, RequestUrl, RelativePath, Query, Status, RequestLine, Protocol, RemoteIp, RemoteHost, Ident, User, Moment, Sent, SentOrDash, RequestField, ResponseField, Param, Cookie, Context}
 use Rattle.tow_model.specs.declared.attribute.Piece.{Piece}
 use Rattle.tow_model.specs.declared.attribute.Piece.TheVariants.{Literal, Value}
+use Rattle.tow_model.specs.declared.limits.TheConstants.{MAX_VALUE_LEN}
 use Rattle.tow_model.specs.Texts.{Text, before, after, cut_at, trimmed}
 use Rattle.tow_model.specs.Fields.{field, values_of, bound_to}
 use Rattle.tow_model.specs.Dates.{log_date_of}
@@ -100,17 +101,13 @@ attribute_of (Context name) q x m = or_empty (bound_to name x.context)
 
 -- TEMPLATES
 
--- how long a value can be
-abbrev pub longest_value : ℕ
-longest_value = 65536
-
 abbrev pub piece_of : Piece → Request → Record → ℕ → Text
 piece_of (Literal bytes) q x m = bytes
 piece_of (Value attribute) q x m = attribute_of attribute q x m
 
--- the values of the pieces, one after the other, cut to the first 65,536 bytes
+-- the values of the pieces, one after the other, up to the longest value
 abbrev pub value_of : List Piece → Request → Record → ℕ → Text
-value_of template q x m = take longest_value (flat_map (λ piece. piece_of piece q x m) template)
+value_of template q x m = take MAX_VALUE_LEN (flat_map (λ piece. piece_of piece q x m) template)
 
 -- LINES OF A LOG
 
@@ -134,7 +131,7 @@ is_of_answer (Param name) = true
 is_of_answer (Context name) = true
 is_of_answer other = false
 
--- an attribute as a line shows it: `-` where it is empty, or is one of an answer that was not decided
+-- an attribute as a line shows it: `-` if it is empty, or one of an answer that was not decided
 abbrev pub logged : Attribute → Request → Record → ℕ → Text
 logged attribute q x m =
     if is_of_answer attribute && not (is_decided x.choice) then codes "-" else shown (attribute_of attribute q x m)
@@ -143,6 +140,6 @@ abbrev pub logged_piece : Piece → Request → Record → ℕ → Text
 logged_piece (Literal bytes) q x m = bytes
 logged_piece (Value attribute) q x m = logged attribute q x m
 
--- the line of a format, cut to the first 65,536 bytes
+-- the line of a format, up to the longest value
 abbrev pub line_of : List Piece → Request → Record → ℕ → Text
-line_of format q x m = take longest_value (flat_map (λ piece. logged_piece piece q x m) format)
+line_of format q x m = take MAX_VALUE_LEN (flat_map (λ piece. logged_piece piece q x m) format)

@@ -10,9 +10,10 @@ use Rattle.tow_semantics.specs.Steps.{Step, Go, Stop, on_verdict, on_content}
 use Rattle.tow_semantics.specs.Effects.{Effect, Takes, Asks, ReadsContent, LooksUp, BeginsAgain, GoesToDefault, effect_of}
 use Rattle.tow_semantics.specs.Files.{Files}
 use Rattle.tow_semantics.specs.Pages.{page_of}
-use Rattle.tow_semantics.specs.Plans.{Stand, moved, marked}
+use Rattle.tow_semantics.specs.Plans.{Stand, moved, marked, tested}
+use Rattle.tow_semantics.specs.Runs.{Entry, Wait, for_verdict, for_content}
 
--- what a walk is given: the request, its moment, the folder, and the content, where it has come
+-- what a walk is given: the request, its moment, the folder, and the content, if it has come
 pub record Given : Type 0 where
   pub request : Request
   pub moment : ℕ
@@ -22,7 +23,7 @@ pub record Given : Type 0 where
 -- what is noted on the way: the verdicts still to come, the entries made, whether content was asked for and a page looked for
 pub record Notes : Type 0 where
   pub left : List Verdict
-  pub entries : List (ℕ × Verdict)
+  pub entries : List Entry
   pub asked : Bool
   pub looked : Bool
 
@@ -31,7 +32,7 @@ pub data Answer : Type 0 where
   Stopped : Stand → Notes → Answer
   ToDefault : Stand → Notes → Answer
   Restarted : Stand → Notes → Answer
-  Waiting : Stand → Notes → Answer
+  Waiting : Wait → Stand → Notes → Answer
 
 -- from the left, until an answer other than Next
 abbrev pub and_then : Answer → (Stand → Notes → Answer) → Answer
@@ -39,30 +40,36 @@ and_then (Next s n) go = go s n
 and_then (Stopped s n) go = Stopped s n
 and_then (ToDefault s n) go = ToDefault s n
 and_then (Restarted s n) go = Restarted s n
-and_then (Waiting s n) go = Waiting s n
+and_then (Waiting w s n) go = Waiting w s n
 
 abbrev pub step_answer : Step → Stand → Notes → Answer
 step_answer (Go x) s n = Next (moved x s) n
 step_answer (Stop x) s n = Stopped (moved x s) n
 
--- the first verdict still to come
-abbrev pub enter : ℕ → List Verdict → Stand → Notes → Answer
-enter limit [] s n = Waiting s n
-enter limit (v ∷ vs) s n =
-    step_answer (on_verdict limit v s.state) s (record n { left = vs; entries = n.entries ++ (limit, v) ∷ [] })
+-- Of the stands s and t the first is the one before a step, and the second the one after it. A walk that waits has not
+-- taken the step.
 
-abbrev pub read : Option Content → Stand → Notes → Answer
-read None s n = Waiting s n
-read (Some content) s n = step_answer (on_content content s.state) s n
+-- the notes with the verdict of a limit
+abbrev pub entered : ℕ → Verdict → List Verdict → Notes → Notes
+entered limit v left n = record n { left = left; entries = n.entries ++ record { limit = limit; verdict = v } ∷ [] }
 
-abbrev pub act_answer : Given → Effect → Stand → Notes → Answer
-act_answer g (Takes step) s n = step_answer step s n
-act_answer g (Asks limit) s n = enter limit n.left s n
-act_answer g ReadsContent s n = read g.content s (record n { asked = true })
-act_answer g (LooksUp location listing) s n =
-    step_answer (page_of g.files location listing g.request s.state) s (record n { looked = true })
-act_answer g BeginsAgain s n = Restarted s n
-act_answer g GoesToDefault s n = ToDefault s n
+-- takes the first verdict still to come
+abbrev pub enter : ℕ → List Verdict → Stand → Stand → Notes → Answer
+enter limit [] s t n = Waiting for_verdict s n
+enter limit (v ∷ vs) s t n = step_answer (on_verdict limit v s.state) t (entered limit v vs n)
+
+abbrev pub read : Option Content → Stand → Stand → Notes → Answer
+read None s t n = Waiting for_content s n
+read (Some content) s t n = step_answer (on_content content s.state) t n
+
+abbrev pub act_answer : Given → Effect → Stand → Stand → Notes → Answer
+act_answer g (Takes step) s t n = step_answer step t n
+act_answer g (Asks limit) s t n = enter limit n.left s t n
+act_answer g ReadsContent s t n = read g.content s t (record n { asked = true })
+act_answer g (LooksUp location listing) s t n =
+    step_answer (page_of g.files location listing g.request s.state) t (record n { looked = true })
+act_answer g BeginsAgain s t n = Restarted t n
+act_answer g GoesToDefault s t n = ToDefault t n
 
 abbrev pub walk_all : List (Stand → Notes → Answer) → Stand → Notes → Answer
 walk_all [] s n = Next s n
@@ -75,8 +82,8 @@ walk_other (Some statement) s n = statement s n
 abbrev pub walk_by : Given → Statement-F (Stand → Notes → Answer) → Stand → Notes → Answer
 walk_by g (When test then_part other) s n =
     let h = holds_of test g.request s.state g.moment in
-    (if h.holds then then_part else walk_other other) (moved h.state s) n
-walk_by g (Act a) s n = act_answer g (effect_of a g.request s.state g.moment) (marked a s) n
+    (if h.holds then then_part else walk_other other) (tested h.state s) n
+walk_by g (Act a) s n = act_answer g (effect_of a g.request s.state g.moment) s (marked a s) n
 walk_by g (Block parts) s n = walk_all parts s n
 
 abbrev pub walk_one : Given → Statement → Stand → Notes → Answer

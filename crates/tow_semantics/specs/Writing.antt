@@ -1,5 +1,5 @@
 -- What a text writes into the record, and what it refuses to write.
-use Rattle.std.specs.Prelude.{ℕ, ◌+◌, ◌-◌, ◌*◌, Bool, not, ◌&&◌, ◌==◌, nat_le, List, [], ◌∷◌, length, if◌then◌else◌, Option, Some, None, option_map, codes}
+use Rattle.std.specs.Prelude.{ℕ, ◌+◌, ◌-◌, ◌*◌, Bool, not, ◌&&◌, ◌||◌, ◌==◌, nat_le, List, [], ◌∷◌, length, if◌then◌else◌, Option, Some, None, option_map, codes}
 use Rattle.std.specs.List.{list_all}
 use Rattle.std.specs.Char.{is_ascii_digit}
 use Rattle.std.specs.Option.{unwrap_or, option_or}
@@ -7,6 +7,7 @@ use Rattle.std.specs.Str.{byte}
 use Rattle.http_header.specs.Token.{is_value_byte}
 use Rattle.tow_model.specs.declared.request.Field.{Field}
 use Rattle.tow_model.specs.declared.record.Record.{Record}
+use Rattle.tow_model.specs.declared.limits.TheConstants.{MAX_RESPONSE_FIELDS}
 use Rattle.tow_model.specs.declared.action.Target.{Target}
 use Rattle.tow_model.specs.declared.action.Target.TheVariants.{RelativePath, Query, Status, ResponseField, Context}
 use Rattle.tow_model.specs.Texts.{Text, is_within, before, after}
@@ -20,7 +21,7 @@ is_status n = is_within 200 599 n && not (n == 205)
 -- three digits that are a status
 abbrev pub read_status : Text → Option ℕ
 read_status (a ∷ b ∷ c ∷ []) =
-    let n = 100 * (a - 48) + 10 * (b - 48) + (c - 48) in
+    let n = 100 * (a - byte "0") + 10 * (b - byte "0") + (c - byte "0") in
     if list_all is_ascii_digit (a ∷ b ∷ c ∷ []) && is_status n then Some n else None
 read_status other = None
 
@@ -29,16 +30,16 @@ abbrev pub written_query : Text → Option Text
 written_query [] = None
 written_query (b ∷ bs) = Some (if b == byte "?" then bs else b ∷ bs)
 
--- how many response fields `set` and `header` may make
-abbrev pub most_fields : ℕ
-most_fields = 256
+-- the second list has no field more than the first one, or no more than a text may make
+abbrev pub is_room : List Field → List Field → Bool
+is_room old new = nat_le (length new) (length old) || nat_le (length new) MAX_RESPONSE_FIELDS
 
--- the record with those response fields, where they are not too many and the value is one (RFC 9110, section 5.5)
+-- the record with those response fields, if there is room for them and the value is one (RFC 9110, section 5.5)
 abbrev pub with_fields : Text → List Field → Record → Option Record
 with_fields value fields x =
-    if list_all is_value_byte value && nat_le (length fields) most_fields then Some (record x { fields = fields }) else None
+    if list_all is_value_byte value && is_room x.fields fields then Some (record x { fields = fields }) else None
 
--- the record with the value in its target's place, and nothing where the value breaks a rule
+-- the record with the value in its target's place, and nothing if the value breaks a rule
 abbrev pub assigned : Target → Text → Record → Option Record
 assigned RelativePath value x =
     Some (record x { path = resolved (rooted (before (byte "?") value)); query = option_or (after (byte "?") value) x.query })

@@ -7,14 +7,15 @@ use Rattle.tow_semantics.specs.Steps.{answered}
 use Rattle.tow_semantics.specs.Sites.{given}
 use Rattle.tow_semantics.specs.Plans.{Stand, moved, without_context}
 use Rattle.tow_semantics.specs.Walk.{Given, Notes, walk}
-use Rattle.tow_semantics.specs.Outcome.{Outcome, decided, after_walk, walks}
+use Rattle.tow_semantics.specs.Runs as runs
+use Rattle.tow_semantics.specs.Outcome.{decided, after_walk, walks}
 use Rattle.tow_site.specs.declared.outcomes.Answerer.TheVariants.{Text, DefaultHandler}
 use Rattle.tow_site.specs.declared.outcomes.Answerer.{Answerer}
 use Rattle.tow_site.specs.declared.walk.Walked.TheVariants.{Next, Stopped, ToDefault, Restarted}
 use Rattle.tow_site.specs.Walking.{at, WalksAll, Leads}
 
 -- what a restart leads to
-abbrev again_of : List Statement → ℕ → Given → Stand → Notes → Outcome
+abbrev again_of : List Statement → ℕ → Given → Stand → Notes → runs.Walked
 again_of tree zero g t k = decided (moved (answered 500 t.state) t) k
 again_of tree (suc left) g t k = walks g tree left (without_context t) k
 

@@ -6,7 +6,7 @@ use Rattle.tow_model.specs.declared.action.Action.{Action}
 use Rattle.tow_model.specs.declared.predicate.Predicate.{Predicate}
 use Rattle.tow_model.specs.declared.statement.Statement.{Statement}
 use Rattle.tow_model.specs.declared.statement.Statement.TheVariants as st
-use Rattle.tow_semantics.specs.Plans.{Stand, moved}
+use Rattle.tow_semantics.specs.Plans.{Stand, after_step, tested}
 use Rattle.tow_semantics.specs.Predicates.{Held, holds_of}
 use Rattle.tow_semantics.specs.Sites.{given}
 use Rattle.tow_semantics.specs.Walk.{Notes, Answer, and_then, walk_other, walk_one, walk}
@@ -34,18 +34,18 @@ module _ (q : Request) (m : ℕ) where
 
   -- where a predicate's answer leads
   abbrev led : (Stand → Notes → Answer) → (Stand → Notes → Answer) → Stand → Notes → Held → Answer
-  led first second s n h = (if h.holds then first else second) (moved h.state s) n
+  led first second s n h = (if h.holds then first else second) (tested h.state s) n
 
   pub walks_then : (t : Predicate) (a : Statement) (other : Option Statement) (x y : Record) (end : Walked) (z : Record) →
       Leaves t x true y → Walks q m a y end z → Walks q m (st.When t a other) x end z
   walks_then t a None x y end z h w = record {
     is = λ files content b n.
-        let r = w.is files content b n in
+        let r = w.is files content (after_step b) n in
         (r.0, walk_when (given files q m content) t a (at x b) n ∙ ap (led (walk_one (given files q m content) a) (walk_other None) (at x b) n) h ∙ r.1);
   }
   walks_then t a (Some o) x y end z h w = record {
     is = λ files content b n.
-        let r = w.is files content b n in (
+        let r = w.is files content (after_step b) n in (
           r.0,
           walk_when_else (given files q m content) t a o (at x b) n
               ∙ ap (led (walk_one (given files q m content) a) (walk_one (given files q m content) o) (at x b) n) h ∙ r.1,
@@ -56,7 +56,7 @@ module _ (q : Request) (m : ℕ) where
       Leaves t x false y → Walks q m o y end z → Walks q m (st.When t a (Some o)) x end z
   walks_else t a o x y end z h w = record {
     is = λ files content b n.
-        let r = w.is files content b n in (
+        let r = w.is files content (after_step b) n in (
           r.0,
           walk_when_else (given files q m content) t a o (at x b) n
               ∙ ap (led (walk_one (given files q m content) a) (walk_one (given files q m content) o) (at x b) n) h ∙ r.1,
@@ -66,7 +66,7 @@ module _ (q : Request) (m : ℕ) where
   pub walks_on : (t : Predicate) (a : Statement) (x y : Record) → Leaves t x false y → Walks q m (st.When t a None) x Next y
   walks_on t a x y h = record {
     is = λ files content b n.
-        (b, walk_when (given files q m content) t a (at x b) n ∙ ap (led (walk_one (given files q m content) a) (walk_other None) (at x b) n) h);
+        (after_step b, walk_when (given files q m content) t a (at x b) n ∙ ap (led (walk_one (given files q m content) a) (walk_other None) (at x b) n) h);
   }
 
   pub walks_none : (x : Record) → WalksAll q m [] x Next x

@@ -56,10 +56,9 @@ state status choice =
 -- each request ends with this record
 abbrev ending : Record → Bool → Option Wait → Run
 ending x asked waits = record {
-  outcome = λ q m c v. record { outcome = record { state = x; entries = []; asked = asked; waits = waits }; left = v };
+  outcome = λ q m c v. record { outcome = record { state = x; entries = []; asked = asked; looked = false; worked = false; waits = waits }; left = v };
   file = λ path. [];
   moment = λ k j. 0;
-  line = λ n q m x. [];
 }
 
 -- hi

@@ -12,14 +12,14 @@ pub returns-in-Go-clause-acts : goal.returns-in-Go-clause-acts
 returns-in-Go-clause-acts c = record {
   is = λ files content b n.
       let s = marked c.args.action.now (at c.args.state.now b) in
-      (s.blocked, ap (λ (e : effects.Effect). act_answer (given files c.args.request.now c.args.moment content) e s n) (sym c.in-Go.ensures.value));
+      (s.mark, ap (λ (e : effects.Effect). act_answer (given files c.args.request.now c.args.moment content) e (at c.args.state.now b) s n) (sym c.in-Go.ensures.value));
 }
 
 pub returns-in-Stop-clause-acts : goal.returns-in-Stop-clause-acts
 returns-in-Stop-clause-acts c = record {
   is = λ files content b n.
       let s = marked c.args.action.now (at c.args.state.now b) in
-      (s.blocked, ap (λ (e : effects.Effect). act_answer (given files c.args.request.now c.args.moment content) e s n) (sym c.in-Stop.ensures.value));
+      (s.mark, ap (λ (e : effects.Effect). act_answer (given files c.args.request.now c.args.moment content) e (at c.args.state.now b) s n) (sym c.in-Stop.ensures.value));
 }
 
 pub returns-in-Restart-clause-acts : goal.returns-in-Restart-clause-acts
@@ -28,9 +28,9 @@ returns-in-Restart-clause-acts c =
     record {
       is = λ files content b n.
           let s = marked c.args.action.now (at c.args.state.now b) in (
-            s.blocked,
-            ap (λ (e : effects.Effect). act_answer (given files c.args.request.now c.args.moment content) e s n) (sym c.in-Restart.ensures.value)
-                ∙ ap (λ (x : Record). model.Restarted (at x s.blocked) n) (sym same),
+            s.mark,
+            ap (λ (e : effects.Effect). act_answer (given files c.args.request.now c.args.moment content) e (at c.args.state.now b) s n) (sym c.in-Restart.ensures.value)
+                ∙ ap (λ (x : Record). model.Restarted (at x s.mark) n) (sym same),
           );
     }
 
@@ -40,8 +40,8 @@ returns-in-ToDefault-clause-acts c =
     record {
       is = λ files content b n.
           let s = marked c.args.action.now (at c.args.state.now b) in (
-            s.blocked,
-            ap (λ (e : effects.Effect). act_answer (given files c.args.request.now c.args.moment content) e s n) (sym c.in-ToDefault.ensures.value)
-                ∙ ap (λ (x : Record). model.ToDefault (at x s.blocked) n) (sym same),
+            s.mark,
+            ap (λ (e : effects.Effect). act_answer (given files c.args.request.now c.args.moment content) e (at c.args.state.now b) s n) (sym c.in-ToDefault.ensures.value)
+                ∙ ap (λ (x : Record). model.ToDefault (at x s.mark) n) (sym same),
           );
     }
