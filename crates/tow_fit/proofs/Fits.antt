@@ -1,6 +1,6 @@
 -- The fit of a call, by its name and its parameters.
-use Rattle.std.specs.Prelude.{◌≡◌, ℕ, true, false, ◌&&◌, nat_le, List, [], Some, Result, Ok, Err, if◌then◌else◌}
-use Rattle.std.proofs.Common.{refl, sym, ◌∙◌, ap}
+use Rattle.std.specs.Prelude.{◌≡◌, ℕ, true, false, ◌&&◌, nat_le, List, [], length, ◌≤◌, Some, Result, Ok, Err, if◌then◌else◌}
+use Rattle.std.proofs.Common.{refl, sym, ◌∙◌, ap, arith}
 use Rattle.tow_language.specs.declared.kind.Kind.TheVariants.{TooManyLimits, UnknownName}
 use Rattle.tow_model.specs.declared.action.Action.{Action}
 use Rattle.tow_model.specs.declared.predicate.Test.{Test}
@@ -87,3 +87,31 @@ action_full h place ps n gs e full =
 pub action_fails : (h : Handler) (place : ℕ) (ps : RawParameters) (n : fits.Counts) (e : ParseFault) →
     Fails e (givens_in (handler_parameters h) place ps) → Fails e (action_in h place ps n)
 action_fails h place ps n e fails = fails_then e (givens_in (handler_parameters h) place ps) (limited h place n) fails
+
+-- no row has more than three parameters
+pub few_for_handler : (h : Handler) → length (handler_parameters h) ≤ 3
+few_for_handler handlers.Set = omega arith
+few_for_handler handlers.Clear = omega arith
+few_for_handler handlers.Rewrite = omega arith
+few_for_handler handlers.Redirect = omega arith
+few_for_handler handlers.ResponseCode = omega arith
+few_for_handler handlers.Header = omega arith
+few_for_handler handlers.AllowedMethods = omega arith
+few_for_handler handlers.RequestLimit = omega arith
+few_for_handler handlers.Resource = omega arith
+few_for_handler handlers.Blocking = omega arith
+few_for_handler handlers.AccessLog = omega arith
+few_for_handler handlers.Echo = omega arith
+
+pub few_for_predicate : (t : TestName) → length (test_parameters t) ≤ 3
+few_for_predicate tests.True = omega arith
+few_for_predicate tests.False = omega arith
+few_for_predicate tests.Path = omega arith
+few_for_predicate tests.PathPrefix = omega arith
+few_for_predicate tests.PathSuffix = omega arith
+few_for_predicate tests.PathTemplate = omega arith
+few_for_predicate tests.Regex = omega arith
+few_for_predicate tests.Method = omega arith
+few_for_predicate tests.Equals = omega arith
+few_for_predicate tests.Contains = omega arith
+few_for_predicate tests.Exists = omega arith

@@ -1,7 +1,6 @@
 -- What a fit has in hand while it reads a call.
-use Rattle.std.specs.Prelude.{◌≡◌, ℕ, Bool, false, ◌==◌, ◌&&◌, ◌||◌, nat_le, length, map, List, [], ◌∷◌, ◌++◌, Option, Some, None, Result, Ok, Err, option_map, if◌then◌else◌}
+use Rattle.std.specs.Prelude.{◌≡◌, ℕ, Bool, false, ◌==◌, ◌&&◌, ◌||◌, nat_le, length, map, List, [], ◌∷◌, ◌++◌, Option, Some, None, Result, Ok, Err, if◌then◌else◌}
 use Rattle.tow_language.specs.declared.table.Given.{Given}
-use Rattle.tow_language.specs.declared.table.Given.TheVariants as givens
 use Rattle.tow_language.specs.declared.kind.Kind.TheVariants.{BadParameter, BadTarget}
 use Rattle.tow_language.specs.Fit as fits
 use Rattle.tow_language.specs.Fit.{TextFault, fault, wanted, ◌>>=◌, place_of, given_of, gathered, paired, unused, found_of}
@@ -13,15 +12,12 @@ use Rattle.tow_model.specs.Texts.{cut_at}
 use Rattle.tow_model.specs.declared.predicate.Segment.{Segment}
 use Rattle.tow_model.specs.declared.predicate.Segment.TheVariants.{Fixed, Bind}
 use Rattle.std.specs.List.{list_all, list_any}
-use Rattle.tow_language.specs.Table.{Parameter, takes_array, the_path}
-use Rattle.tow_language.specs.Templates.{common}
+use Rattle.tow_language.specs.Signatures.{parameter_as}
+use Rattle.tow_language.specs.Table.{Parameter, takes_array}
 use Rattle.tow_fit.specs.declared.call.WrittenText.{WrittenText}
 use Rattle.tow_fit.specs.declared.fault.ParseFault.{ParseFault}
-use Rattle.tow_fit.specs.declared.fitting.table.Standard.{Standard}
-use Rattle.tow_fit.specs.declared.fitting.table.Standard.TheVariants as standards
-use Rattle.tow_fit.specs.declared.fitting.table.Row.{Row}
-use Rattle.tow_fit.specs.declared.fitting.table.Rows.{Rows}
-use Rattle.tow_fit.specs.declared.fitting.table.Rows.TheVariants as rows
+use Rattle.tow_fit.specs.declared.fitting.rows.Rows.{Rows}
+use Rattle.tow_fit.specs.declared.fitting.rows.Rows.TheVariants as rows
 use Rattle.tow_fit.specs.Faults.{Fails}
 
 -- a step gives what the definition gives, or stops with its fault
@@ -29,20 +25,12 @@ abbrev pub Meets : {A : Type 0} → Result A ParseFault → Result A TextFault �
 Meets (Ok x) defined = defined ≡ Ok x
 Meets (Err e) defined = Fails e defined
 
--- what stands for a parameter that is not written
-abbrev pub standard_of : Standard → Given
-standard_of standards.ThePath = the_path
-standard_of (standards.Truth truth) = givens.Truth truth
-standard_of standards.Common = givens.Template common
-
-abbrev pub parameter_of : Row → Parameter
-parameter_of row = record { name = row.name.now; shape = row.shape; default = option_map standard_of row.standard }
-
+-- the parameters of a row
 abbrev pub rows_of : Rows → List Parameter
 rows_of rows.None = []
-rows_of (rows.One a) = parameter_of a ∷ []
-rows_of (rows.Two a b) = parameter_of a ∷ parameter_of b ∷ []
-rows_of (rows.Three a b c) = parameter_of a ∷ parameter_of b ∷ parameter_of c ∷ []
+rows_of (rows.One a) = parameter_as a ∷ []
+rows_of (rows.Two a b) = parameter_as a ∷ parameter_as b ∷ []
+rows_of (rows.Three a b c) = parameter_as a ∷ parameter_as b ∷ parameter_as c ∷ []
 
 abbrev pub bytes_of : WrittenText → List ℕ
 bytes_of text = text.bytes

@@ -7,7 +7,7 @@ ghost use Rattle.tow_language.specs.Shapes as shapes;
 ghost use Rattle.tow_fit.specs.Fitting.{Meets, writable_field};
 
 use crate::fault::ParseFault;
-use crate::fitting::names::is_name;
+use crate::fitting::bytes::is_name;
 use http_header::{HeaderName, HeaderNameError, is_token};
 use std::alloc::Global;
 use tow_model::Bytes;

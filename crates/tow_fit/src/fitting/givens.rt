@@ -9,17 +9,18 @@ ghost use Rattle.tow_language.specs.Table as table;
 ghost use Rattle.tow_language.specs.Templates as templates;
 ghost use Rattle.tow_fit.specs.declared.fitting.parameters.Found.{Found};
 ghost use Rattle.tow_fit.specs.Calls.{parameters_of};
-ghost use Rattle.tow_fit.specs.Fitting.{Meets, MeetsBy, found_as, parameter_of, rows_of, standard_of};
+ghost use Rattle.tow_language.specs.Signatures.{parameter_as, standard_of};
+ghost use Rattle.tow_fit.specs.Fitting.{Meets, MeetsBy, found_as, rows_of};
 ghost use Rattle.tow_fit.specs.Making.{are_apart, filled_one, givens_in, givens_list};
 
 use crate::call::WrittenParameters;
 use crate::fault::ParseFault;
-use crate::fitting::names::is_name;
+use crate::fitting::bytes::is_name;
 use crate::fitting::parameters::{Found, found_in};
-use crate::fitting::table::{Row, Rows, Standard};
+use crate::fitting::rows::Rows;
 use crate::fitting::templates::{COMMON, template_at};
 use std::alloc::Global;
-use tow_language::Given;
+use tow_language::{Given, Parameter, Standard};
 use tow_model::{Attribute, List, Piece};
 
 /// What up to three parameters stand for.
@@ -59,8 +60,8 @@ fn filled(alloc: Global, rows: Rows, found: List<Found>, place: usize) -> Result
     }
 }
 
-fn one(alloc: Global, a: Row, found: List<Found>, place: usize) -> Result<Givens, ParseFault>
-    ensures { MeetsBy givens_list result (fits.filled (parameter_of a ∷ []) (map found_as found) place) }
+fn one(alloc: Global, a: Parameter, found: List<Found>, place: usize) -> Result<Givens, ParseFault>
+    ensures { MeetsBy givens_list result (fits.filled (parameter_as a ∷ []) (map found_as found) place) }
 {
     let mut found = found.into_vec();
     let first = taken(alloc, a, &mut found, place)?;
@@ -69,13 +70,13 @@ fn one(alloc: Global, a: Row, found: List<Found>, place: usize) -> Result<Givens
 
 fn two(
     alloc: Global,
-    a: Row,
-    b: Row,
+    a: Parameter,
+    b: Parameter,
     found: List<Found>,
     place: usize,
 ) -> Result<Givens, ParseFault>
-    requires { are_apart (parameter_of a ∷ parameter_of b ∷ []) ≡ true }
-    ensures { MeetsBy givens_list result (fits.filled (parameter_of a ∷ parameter_of b ∷ []) (map found_as found) place) }
+    requires { are_apart (parameter_as a ∷ parameter_as b ∷ []) ≡ true }
+    ensures { MeetsBy givens_list result (fits.filled (parameter_as a ∷ parameter_as b ∷ []) (map found_as found) place) }
 {
     let mut found = found.into_vec();
     let first = taken(alloc, a, &mut found, place)?;
@@ -85,15 +86,15 @@ fn two(
 
 fn three(
     alloc: Global,
-    a: Row,
-    b: Row,
-    c: Row,
+    a: Parameter,
+    b: Parameter,
+    c: Parameter,
     found: List<Found>,
     place: usize,
 ) -> Result<Givens, ParseFault>
-    requires { are_apart (parameter_of a ∷ parameter_of b ∷ parameter_of c ∷ []) ≡ true }
+    requires { are_apart (parameter_as a ∷ parameter_as b ∷ parameter_as c ∷ []) ≡ true }
     ensures { MeetsBy givens_list result
-        (fits.filled (parameter_of a ∷ parameter_of b ∷ parameter_of c ∷ []) (map found_as found) place) }
+        (fits.filled (parameter_as a ∷ parameter_as b ∷ parameter_as c ∷ []) (map found_as found) place) }
 {
     let mut found = found.into_vec();
     let first = taken(alloc, a, &mut found, place)?;
@@ -103,8 +104,13 @@ fn three(
 }
 
 /// What the parameter stands for, which is taken from what was found, or is its default.
-fn taken(alloc: Global, row: Row, found: &mut Vec<Found>, place: usize) -> Result<Given, ParseFault>
-    ensures value { Meets result (filled_one (parameter_of row) (map found_as found.old.items) place) }
+fn taken(
+    alloc: Global,
+    row: Parameter,
+    found: &mut Vec<Found>,
+    place: usize,
+) -> Result<Given, ParseFault>
+    ensures value { Meets result (filled_one (parameter_as row) (map found_as found.old.items) place) }
     ensures others { (name : List ℕ) → bytes_eq name row.name.now ≡ false →
         lookup (bytes_eq name) (map found_as found.new.items) ≡ lookup (bytes_eq name) (map found_as found.old.items) }
 {

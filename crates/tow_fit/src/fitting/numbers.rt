@@ -5,7 +5,7 @@ ghost use Rattle.std.specs.List.{list_all};
 ghost use Rattle.std.specs.Char.{is_ascii_digit};
 ghost use Rattle.tow_language.specs.Shapes as shapes;
 
-use crate::fitting::names::is_name;
+use crate::fitting::bytes::is_name;
 
 /// How many digits a number has at most.
 const MOST_DIGITS: usize = 10;

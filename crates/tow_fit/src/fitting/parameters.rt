@@ -5,22 +5,23 @@ ghost use Rattle.std.specs.List.{list_any};
 ghost use Rattle.tow_language.specs.Fit as fits;
 ghost use Rattle.tow_language.specs.Table as table;
 ghost use Rattle.tow_fit.specs.Calls.{pair_of, parameters_of, value_of};
-ghost use Rattle.tow_fit.specs.Fitting.{MeetsBy, found_as, found_in, next_found, parameter_of, rows_of};
+ghost use Rattle.tow_language.specs.Signatures.{parameter_as};
+ghost use Rattle.tow_fit.specs.Fitting.{MeetsBy, found_as, found_in, next_found, rows_of};
 
 use crate::call::{WrittenPair, WrittenParameters};
 use crate::fault::ParseFault;
-use crate::fitting::names::is_name;
-use crate::fitting::table::{Row, Rows};
+use crate::fitting::bytes::is_name;
+use crate::fitting::rows::Rows;
 use crate::fitting::unnamed::found_first;
 use crate::fitting::values::given_of;
 use std::alloc::Global;
-use tow_language::Given;
+use tow_language::{Given, Parameter};
 use tow_model::List;
 
 /// A parameter that is written, and what it stands for.
 #[derive(Debug, Drop)]
 pub(crate) struct Found {
-    pub(crate) row: Row,
+    pub(crate) row: Parameter,
     pub(crate) given: Given,
 }
 
@@ -70,8 +71,8 @@ fn next_found(
 }
 
 /// The parameter of this name, unless it was found before.
-fn unused(rows: Rows, found: &[Found], name: &[u8]) -> Option<Row>
-    ensures { option_map parameter_of result ≡ fits.unused (rows_of rows) (map found_as found.now) name.now }
+fn unused(rows: Rows, found: &[Found], name: &[u8]) -> Option<Parameter>
+    ensures { option_map parameter_as result ≡ fits.unused (rows_of rows) (map found_as found.now) name.now }
 {
     if is_found(found, name) {
         None
@@ -87,35 +88,33 @@ fn is_found(found: &[Found], name: &[u8]) -> bool
 }
 
 /// The first parameter of this name.
-fn row_named(rows: Rows, name: &[u8]) -> Option<Row>
-    ensures { option_map parameter_of result ≡ find (λ (q : table.Parameter). bytes_eq q.name name.now) (rows_of rows) }
+fn row_named(rows: Rows, name: &[u8]) -> Option<Parameter>
+    ensures { option_map parameter_as result ≡ find (λ (q : table.Parameter). bytes_eq q.name name.now) (rows_of rows) }
 {
     match rows {
         Rows::None => None,
-        Rows::One(a) => a.named(name),
-        Rows::Two(a, b) => match a.named(name) {
+        Rows::One(a) => if_named(a, name),
+        Rows::Two(a, b) => match if_named(a, name) {
             Some(a) => Some(a),
-            None => b.named(name),
+            None => if_named(b, name),
         },
-        Rows::Three(a, b, c) => match a.named(name) {
+        Rows::Three(a, b, c) => match if_named(a, name) {
             Some(a) => Some(a),
-            None => match b.named(name) {
+            None => match if_named(b, name) {
                 Some(b) => Some(b),
-                None => c.named(name),
+                None => if_named(c, name),
             },
         },
     }
 }
 
-impl Row {
-    /// This parameter, where it has the name.
-    fn named(self, name: &[u8]) -> Option<Row>
-        ensures { option_map parameter_of result ≡ (if bytes_eq self.name.now name.now then Some (parameter_of self) else None) }
-    {
-        if is_name(self.name, name) {
-            Some(self)
-        } else {
-            None
-        }
+/// This parameter, if it has the name.
+fn if_named(row: Parameter, name: &[u8]) -> Option<Parameter>
+    ensures { option_map parameter_as result ≡ (if bytes_eq row.name.now name.now then Some (parameter_as row) else None) }
+{
+    if is_name(row.name, name) {
+        Some(row)
+    } else {
+        None
     }
 }

@@ -6,7 +6,7 @@ ghost use Rattle.std.specs.Option.{option_copied};
 ghost use Rattle.tow_language.specs.Shapes as shapes;
 ghost use Rattle.tow_fit.specs.Fitting.{bound_segment, fixed_segment, is_bound_in, segments_in};
 
-use crate::fitting::names::is_name;
+use crate::fitting::bytes::is_name;
 use crate::fitting::paths::rooted;
 use std::alloc::{AllocError, Global};
 use tow_model::{Bytes, List, Segment};

@@ -7,8 +7,8 @@ ghost use Rattle.tow_language.specs.Shapes as shapes;
 ghost use Rattle.tow_fit.specs.Fitting.{Meets, sole};
 
 use crate::fault::ParseFault;
+use crate::fitting::bytes::is_name;
 use crate::fitting::fields::is_kept_field;
-use crate::fitting::names::is_name;
 use std::alloc::Global;
 use tow_attr::{TemplateFault, read_template};
 use tow_model::{Attribute, Bytes, List, Piece, Target, Template};

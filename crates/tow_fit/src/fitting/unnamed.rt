@@ -5,16 +5,17 @@ ghost use Rattle.tow_language.specs.Fit as fits;
 ghost use Rattle.tow_language.specs.Raw.{unnamed};
 ghost use Rattle.tow_language.specs.Table as table;
 ghost use Rattle.tow_fit.specs.Calls.{value_of};
-ghost use Rattle.tow_fit.specs.Fitting.{MeetsBy, found_as, found_at, found_in, none_taken, one_value, parameter_of, rows_of};
+ghost use Rattle.tow_language.specs.Signatures.{parameter_as};
+ghost use Rattle.tow_fit.specs.Fitting.{MeetsBy, found_as, found_at, found_in, none_taken, one_value, rows_of};
 
 use crate::call::WrittenValue;
 use crate::fault::ParseFault;
 use crate::fitting::parameters::Found;
-use crate::fitting::table::{Row, Rows};
+use crate::fitting::rows::Rows;
 use crate::fitting::texts::place_of;
 use crate::fitting::values::given_of;
 use std::alloc::Global;
-use tow_language::Shape;
+use tow_language::{Parameter, Shape};
 use tow_model::List;
 
 /// What the values stand for as the first parameter. Takes memory for it.
@@ -31,8 +32,8 @@ pub(crate) fn found_first(
     }
 }
 
-fn first_row(rows: Rows) -> Option<Row>
-    ensures { option_map parameter_of result ≡ slice_get (rows_of rows) 0 }
+fn first_row(rows: Rows) -> Option<Parameter>
+    ensures { option_map parameter_as result ≡ slice_get (rows_of rows) 0 }
 {
     match rows {
         Rows::None => None,
@@ -51,8 +52,12 @@ fn none_taken(alloc: Global, values: &[WrittenValue]) -> Result<List<Found>, Par
 }
 
 /// What the values stand for as this parameter.
-fn found_at(alloc: Global, row: Row, values: List<WrittenValue>) -> Result<List<Found>, ParseFault>
-    ensures { MeetsBy (map found_as) result (found_at (parameter_of row) (map value_of values)) }
+fn found_at(
+    alloc: Global,
+    row: Parameter,
+    values: List<WrittenValue>,
+) -> Result<List<Found>, ParseFault>
+    ensures { MeetsBy (map found_as) result (found_at (parameter_as row) (map value_of values)) }
 {
     let mut found = List::new(alloc);
     if let Some(value) = one_value(alloc, row.shape, values)? {

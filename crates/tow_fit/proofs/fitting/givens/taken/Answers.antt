@@ -5,7 +5,8 @@ use Rattle.std.specs.Option.{option_or}
 use Rattle.tow_language.specs.declared.kind.Kind.TheVariants.{BadParameter}
 use Rattle.tow_language.specs.Fit.{wanted}
 use Rattle.tow_fit.specs.declared.fitting.parameters.Found.{Found}
-use Rattle.tow_fit.specs.Fitting.{Meets, found_as, standard_of}
+use Rattle.tow_fit.specs.Fitting.{Meets, found_as}
+use Rattle.tow_language.specs.Signatures.{standard_of}
 use Rattle.tow_fit.proofs.Taking.{lookup_removed, other_name}
 use Rattle.tow_fit.proofs.fitting.givens.taken.Goals as goal
 

@@ -1,13 +1,14 @@
 use Rattle.std.proofs.Common.{◌∙◌, ◌∷◌, [], ap, sym, subst, map, rules, refl}
 use Rattle.tow_language.specs.Fit.{filled}
 use Rattle.tow_fit.specs.Faults.{Fails}
-use Rattle.tow_fit.specs.Fitting.{found_as, parameter_of}
+use Rattle.tow_fit.specs.Fitting.{found_as}
+use Rattle.tow_language.specs.Signatures.{parameter_as}
 use Rattle.tow_fit.proofs.Taking.{apart_two, filled_step, first_fails, rest_fails, same_one}
 use Rattle.tow_fit.proofs.fitting.givens.two.Goals as goal
 
 pub returns-in_err-first : goal.returns-in_err-first
 returns-in_err-first c =
-    let a = parameter_of c.args.a in let b = parameter_of c.args.b in let e = c.in_err-first.field-0.0 in
+    let a = parameter_as c.args.a in let b = parameter_as c.args.b in let e = c.in_err-first.field-0.0 in
     let fails : Fails e (filled (a ∷ b ∷ []) (map found_as c.args.found) c.args.place) =
     subst (λ k. Fails e (filled (a ∷ b ∷ []) (map found_as k) c.args.place)) c.into_vec-found.ensures
     (first_fails a (b ∷ []) (map found_as c.into_vec-found.result.items) c.args.place e c.in_err-first.ensures.value) in
@@ -15,7 +16,7 @@ returns-in_err-first c =
 
 pub returns-in_err-second : goal.returns-in_err-second
 returns-in_err-second c =
-    let a = parameter_of c.args.a in let b = parameter_of c.args.b in let e = c.in_err-second.field-0.0 in
+    let a = parameter_as c.args.a in let b = parameter_as c.args.b in let e = c.in_err-second.field-0.0 in
     let found = map found_as c.into_vec-found.result.items in let place = c.args.place in
     let same = same_one b found _ place (c.in_ok-first.ensures.others b.name (apart_two a b c.requires)) in
     let fails : Fails e (filled (a ∷ b ∷ []) (map found_as c.args.found) place) =
@@ -26,7 +27,7 @@ returns-in_err-second c =
 
 pub returns : goal.returns
 returns c =
-    let a = parameter_of c.args.a in let b = parameter_of c.args.b in
+    let a = parameter_as c.args.a in let b = parameter_as c.args.b in
     let found = map found_as c.into_vec-found.result.items in let place = c.args.place in
     let same = same_one b found _ place (c.in_ok-first.ensures.others b.name (apart_two a b c.requires)) in
     ap (λ k. filled (a ∷ b ∷ []) (map found_as k) place) (sym c.into_vec-found.ensures)
