@@ -1,4 +1,3 @@
 pub mod Memory
-pub mod Parts
 pub mod Shown
 pub mod Writes

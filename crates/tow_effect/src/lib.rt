@@ -1,34 +1,28 @@
 //! What the actions of a site's text do to the record of an exchange, or what they wait for, and the writing of a value in the
 //! place that a target names.
 //!
-//! - `acting`, `outcome`: what an action comes to
-//! - `answering`, `location`, `allow`: the answers of actions that stop, and their fields
-//! - `writing`, `assigning`: values of templates, and values, written into targets
-//! - `clearing`: targets cleared
-//! - `path`, `query`, `status`, `header`, `fields`: the writing of each kind of target
+//! - `dispatch`: which handler an action is, and what it answers, which `outcome` lists.
+//! - `handlers`: the handlers, a file for each.
+//! - `targets`: values written into targets, with `path`, `query`, `status` and `response_field` for each kind.
+//! - `answers`, `location`: answers without content, and the location that one names.
 #![tactic(auto)]
 
-mod acting;
-mod allow;
-mod answering;
-mod assigning;
-mod clearing;
-mod fields;
-mod header;
+mod answers;
+mod dispatch;
+mod handlers;
 mod location;
 mod outcome;
 mod path;
 mod query;
+mod response_field;
 mod status;
-#[cfg(test)]
-mod test_rows;
+mod targets;
 #[cfg(test)]
 mod tests;
-mod writing;
 
-pub use acting::effect;
-pub use answering::answer;
-pub use assigning::assign;
-pub use fields::set_field;
+pub use answers::answer;
+pub use dispatch::effect;
 pub use outcome::{Assign, Effect};
+pub use targets::assign;
 pub use tow_model::{Action, Bytes, Record, Request, Target};
+pub use tow_text::set_field;

@@ -13,9 +13,9 @@ const HIDDEN: AsciiSet = AsciiSet {
     mask: 0x1_FFFF_FFFF | 1 << 0x7F,
 };
 
-/// The text with each byte but 0x21 to 0x7E percent-encoded, in upper case; a `%` stays. Takes memory only where there is such
-/// a byte.
-pub(crate) fn located(alloc: Global, text: Bytes) -> Result<Bytes, AllocError>
+/// The text with each byte but 0x21 to 0x7E percent-encoded, in upper case; a `%` stays. Takes memory only if there is such a
+/// byte.
+pub(crate) fn location_of(alloc: Global, text: Bytes) -> Result<Bytes, AllocError>
     ensures { IfOk result (λ b. b ≡ escaped is_visible text) }
 {
     if is_all_visible(text.as_slice()) {

@@ -1,3 +1,5 @@
+//! What actions and writes answer.
+
 use tow_model::Bytes;
 
 /// What an action does, or what it waits for.
@@ -11,7 +13,7 @@ pub enum Effect {
     Ask(u32),
     /// The content of the request is to be read.
     Content,
-    /// A page is to be looked for behind the location, with a listing or without.
+    /// A page is to be looked for after the location, with a listing or without.
     Page { location: Bytes, listing: bool },
     /// The text begins again.
     Restart,

@@ -5,8 +5,8 @@ ghost use Rattle.tow_semantics.specs.Writing as model;
 
 use tow_model::Bytes;
 
-/// The query that a value writes: the value without a leading `?`, and none where the value is empty. Takes no memory.
-pub(crate) fn written_query(value: Bytes) -> Option<Bytes>
+/// The query that a value writes: the value without a leading `?`, and none if the value is empty. Takes no memory.
+pub(crate) fn query_of(value: Bytes) -> Option<Bytes>
     ensures { result ≡ model.written_query value }
 {
     let mut bytes = value.into_vec();

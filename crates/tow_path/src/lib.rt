@@ -10,7 +10,6 @@ mod target;
 mod template;
 #[cfg(test)]
 mod tests;
-mod text;
 
 pub use prefix::is_prefix;
 pub use resolving::resolve;

@@ -11,11 +11,11 @@ ghost use Rattle.tow_path.specs.Told.{IsResolved, Names, Reads};
 
 use crate::resolving::{resolve, resolve_owned};
 use crate::scheme::absolute_part;
-use crate::text::{after, before};
 use percent_encoding::percent_decode;
 use std::alloc::Global;
 use std::borrow::CowSlice;
 use tow_model::{Bytes, NoMemory};
+use tow_text::{after, before};
 
 /// What a target names.
 #[derive(Debug, Drop)]
