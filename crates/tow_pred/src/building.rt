@@ -60,8 +60,8 @@ fn build_all<M: Maker>(
 }
 
 /// Builds the patterns of a tree, in the order of the text. The fault is that of a pattern that is refused; those before it are
-/// in the grammar, and were not refused as too large. Takes
-/// memory for the patterns, and for the time of the call for their places.
+/// in the grammar, and were not refused as too large. Takes memory for the patterns, and for the time of the call for their
+/// places.
 pub fn build<M: Maker>(alloc: Global, tree: &Tree, maker: &mut M) -> Result<Tests, PatternFault>
     requires numbered { IsNumbered tree.now }
     ensures tests { IfOk result (λ tests. tests ≡ map (λ t. t.1) (tree_patterns tree.now)) }

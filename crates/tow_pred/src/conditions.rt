@@ -1,4 +1,4 @@
-//! Tests, and what they bind.
+//! The tests that predicates are made of, and what they bind.
 
 ghost use Rattle.std.specs.Prelude.{◌≡◌, ◌<◌, IfOk, IfSome, IsTrue, length, slice_get};
 ghost use Rattle.tow_model.specs.Dates.{first_undated};
@@ -8,17 +8,18 @@ ghost use Rattle.tow_semantics.specs.Values.{value_of};
 ghost use Rattle.tow_pred.specs.Memory.{is_plain_test};
 ghost use Rattle.std.specs.Result.{is_ok};
 
-use crate::context::{bind, bind_all, field};
-use crate::paths::{ends_with_one, is_among, longest_prefix};
+use crate::context::bind_all;
+use crate::paths::{ends_with_one, longest_prefix};
 use crate::scratch::Scratch;
 use crate::templates::bind_parts;
 use crate::values::{are_equal, contains_one, exists};
 use std::alloc::Global;
 use tow_attr::value;
 use tow_model::{Bytes, Field, List, NoMemory, Record, Request, Template, Test};
+use tow_text::{bind, copied_field, is_among};
 
-/// Whether the test holds. What it binds stands in the context from then on. Where memory is short, nothing but the context
-/// may have changed.
+/// Whether the test holds. What it binds stands in the context from then on. If memory is short, nothing but the context may
+/// have changed.
 pub(crate) fn passes(
     alloc: Global,
     scratch: &mut Scratch<'_>,
@@ -62,7 +63,7 @@ pub(crate) fn passes(
     }
 }
 
-/// Binds what a test found, where it found something. Takes memory for the context.
+/// Binds what a test found, if anything. Takes memory for the context.
 fn bind_found(
     alloc: Global,
     state: &mut Record,
@@ -80,7 +81,7 @@ fn bind_found(
     }
 }
 
-/// Binds what the longest of the prefixes leaves of the path, where it lies under one. Takes memory for the binding.
+/// Binds what the longest of the prefixes leaves of the path, if it lies under one. Takes memory for the binding.
 fn bind_remaining(alloc: Global, prefixes: &[Bytes], state: &mut Record) -> Result<bool, NoMemory>
     ensures holds { IfOk result (λ b.
         held (prefix_bindings prefixes.now state.old.path) state.old ≡ record { holds = b; state = state.new }) }
@@ -88,7 +89,7 @@ fn bind_remaining(alloc: Global, prefixes: &[Bytes], state: &mut Record) -> Resu
 {
     match longest_prefix(prefixes, state.path.as_slice()) {
         Some(len) => {
-            let remaining = field(alloc, b"remaining", &state.path.as_slice()[len..])?;
+            let remaining = copied_field(alloc, b"remaining", &state.path.as_slice()[len..])?;
             bind(alloc, &mut state.context, remaining)?;
             Ok(true)
         }

@@ -4,18 +4,10 @@ ghost use Rattle.std.specs.Prelude.{◌≡◌, ◌≤◌, IfSome, filter, length
 ghost use Rattle.std.specs.List.{list_any};
 ghost use Rattle.tow_model.specs.Paths as paths;
 ghost use Rattle.tow_semantics.specs.Predicates.{longest};
-ghost use Rattle.tow_model.specs.Texts as text_specs;
 ghost use Rattle.tow_model.specs.Texts.{ends_in};
 
 use tow_model::Bytes;
 use tow_path::is_prefix;
-
-/// Whether the text is one of the texts. Takes no memory.
-pub(crate) fn is_among(text: &[u8], texts: &[Bytes]) -> bool
-    ensures { result ≡ text_specs.is_among text.now texts.now }
-{
-    texts.iter().any(|other| other.as_slice() == text)
-}
 
 /// Whether the path ends with one of the suffixes. Takes no memory.
 pub(crate) fn ends_with_one(path: &[u8], suffixes: &[Bytes]) -> bool

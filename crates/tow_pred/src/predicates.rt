@@ -6,16 +6,16 @@ ghost use Rattle.tow_model.specs.Dates.{first_undated};
 ghost use Rattle.tow_semantics.specs.Predicates.{AreAmong, holds_of, patterns_in};
 ghost use Rattle.tow_pred.specs.Memory.{is_plain};
 
+use crate::conditions::passes;
 use crate::scratch::Scratch;
-use crate::testing::passes;
 use std::alloc::Global;
 use tow_model::{NoMemory, Predicate, Record, Request};
 
 /// Whether the predicate holds of a request and the record of its exchange, from the left to the right; the right side of
-/// `and` and `or` is looked at only where the left one decides nothing. What a test that holds binds stands in the context
-/// from then on, also where the whole does not hold. The moment is in seconds since 1970. Takes memory for the values of
-/// templates and for bindings; where it is short, nothing but the context may have changed. A
-/// predicate of `true`, `false`, `path`, `path-suffix` and `method` alone takes none.
+/// `and` and `or` is looked at only if the left one decides nothing. What a test that holds binds stands in the context
+/// from then on, also if the whole does not hold. The moment is in seconds since 1970. Takes memory for the values of
+/// templates and for bindings; if it is short, nothing but the context may have changed. A predicate of
+/// `true`, `false`, `path`, `path-suffix` and `method` alone takes none.
 pub fn holds(
     alloc: Global,
     scratch: &mut Scratch<'_>,

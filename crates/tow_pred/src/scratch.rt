@@ -1,4 +1,4 @@
-//! What searches for the patterns of some tests.
+//! The state of searches for patterns.
 
 ghost use Rattle.std.specs.Prelude.{◌≡◌, ◌<◌, IfOk, IfSome, length, slice_get};
 ghost use Rattle.tow_pattern.specs.Patterns.{pattern_bindings};
@@ -10,7 +10,7 @@ use std::alloc::{AllocError, Global};
 use std::marker::Model;
 use tow_model::{Field, List, NoMemory};
 
-/// What searches for the patterns of some tests need: one matcher per pattern, made once. Contracts see the patterns' texts.
+/// The reusable state of searches: one matcher per pattern. Contracts see the patterns' texts.
 #[derive(Drop)]
 pub struct Scratch<'t> {
     searches: Vec<Search<'t>>,
@@ -33,7 +33,7 @@ impl<'t> Scratch<'t> {
         Ok(Scratch { searches })
     }
 
-    /// The groups of the first match in the value of the pattern with this number, where there is one. Takes memory for
+    /// The groups of the first match in the value of the pattern with this number, if there is one. Takes memory for
     /// them alone.
     pub(crate) fn bindings(
         &mut self,
@@ -50,7 +50,7 @@ impl<'t> Scratch<'t> {
     }
 }
 
-/// What searches for each pattern.
+/// The search for each pattern.
 fn searches<'t>(alloc: Global, patterns: &'t [Pattern]) -> Result<Vec<Search<'t>>, AllocError>
     ensures { IfOk result (λ s. s.items ≡ patterns.now) }
 {

@@ -7,13 +7,13 @@ ghost use Rattle.tow_model.specs.Fields as fields;
 ghost use Rattle.tow_pattern.specs.Patterns.{pattern_bindings};
 ghost use Rattle.tow_pred.specs.Built.{IsBuilt, located_groups};
 
-use crate::context::field;
 use itoa::Buffer;
 use regex::CaptureLocations;
 use regex::bytes::{Matcher, Regex};
 use std::alloc::{AllocError, Global};
 use std::marker::Model;
 use tow_model::{Field, List};
+use tow_text::copied_field;
 
 /// Searches for one pattern, and has room for the groups of a match. Contracts see the pattern's text.
 #[derive(Drop)]
@@ -52,7 +52,7 @@ impl<'t> Search<'t> {
         })
     }
 
-    /// The groups of the first match in the value, by their numbers, where there is one. Takes memory for them alone.
+    /// The groups of the first match in the value, by their numbers, if there is one. Takes memory for them alone.
     pub(crate) fn bindings(
         &mut self,
         alloc: Global,
@@ -80,7 +80,7 @@ fn part(value: &[u8], from: usize, to: usize) -> &[u8]
     &value[from..to]
 }
 
-/// The bytes at the location, and none where a group took no part.
+/// The bytes at the location, and none if a group took no part.
 fn located(value: &[u8], location: Option<(usize, usize)>) -> &[u8]
     ensures { result.now ≡ bytes_of value.now location }
 {
@@ -95,7 +95,7 @@ fn group(alloc: Global, number: usize, text: &[u8]) -> Result<Field, AllocError>
     ensures { IfOk result (λ f. f ≡ fields.field (decimal number) text.now) }
 {
     let mut digits = Buffer::new();
-    field(alloc, digits.format(number as u64).as_bytes(), text)
+    copied_field(alloc, digits.format(number as u64).as_bytes(), text)
 }
 
 /// The groups whose locations these are, by their numbers from 0 on. Takes memory for them.

@@ -5,15 +5,18 @@ ghost use Rattle.tow_pred.specs.Found.{told};
 ghost use Rattle.tow_semantics.specs.Predicates.{AreAmong};
 ghost use Rattle.tow_pred.specs.Numbering.{AreNumbered, IsNumbered, statement_patterns};
 
+use super::rows::{FAULTS, JOINED, Line, Row, TESTS, Word};
 use crate::finding::{Found, find_in_tree};
-use crate::test_rows::{FAULTS, JOINED, Line, Row, TESTS, Word};
 use crate::{PatternFault, Scratch, build, holds};
 use sqlite_items::{Boxed, Items};
 use std::alloc::{AllocError, Global};
 use std::test::Fail;
 use tow_attr::read_template;
 use tow_link::PackMaker;
-use tow_model::{Action, Bytes, Choice, Field, Framing, List, NoMemory, Predicate, Record, Request, Segment, Statement, Template, Test, Tree, Version};
+use tow_model::{
+    Action, Bytes, Choice, Field, Framing, List, NoMemory, Predicate, Record, Request, Segment,
+    Statement, Template, Test, Tree, Version,
+};
 
 /// `Sun, 06 Nov 1994 08:49:37 GMT`.
 const MOMENT: u64 = 784_111_777;

@@ -6,7 +6,7 @@ use Rattle.tow_semantics.specs.Predicates.{AreAmong, held, pattern_of, test_of}
 use Rattle.tow_semantics.specs.Values.{value_of}
 use Rattle.tow_pred.proofs.Among.{numbered}
 use Rattle.tow_pred.proofs.Plain.{answer, holds_plain}
-use Rattle.tow_pred.proofs.testing.passes.Goals as goal
+use Rattle.tow_pred.proofs.conditions.passes.Goals as goal
 
 pub groups-requires-clause-there : goal.groups-requires-clause-there
 groups-requires-clause-there c =

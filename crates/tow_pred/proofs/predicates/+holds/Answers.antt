@@ -2,7 +2,7 @@ use Rattle.std.proofs.Common.{rules}
 use Rattle.tow_model.specs.declared.predicate.Predicate.{the_lemmas}
 use Rattle.tow_pred.proofs.Among.{among_negated, among_both_left, among_both_right, among_either_left, among_either_right}
 use Rattle.tow_pred.proofs.Memories.{plain_both_right, plain_either_right}
-use Rattle.tow_pred.proofs.holding.+holds.Goals as goal
+use Rattle.tow_pred.proofs.predicates.+holds.Goals as goal
 
 pub holds-requires : goal.holds-requires
 holds-requires t c =

@@ -4,7 +4,7 @@ use Rattle.std.proofs.lemmas.List.FromFn.{map-range_with_len_more}
 use Rattle.std.specs.List.{range_with_len}
 use Rattle.tow_model.specs.Texts.{Text}
 use Rattle.tow_pred.proofs.Faulting.{told_more}
-use Rattle.tow_pred.proofs.tests.are_numbered.Goals as goal
+use Rattle.tow_pred.proofs.tests.calls.are_numbered.Goals as goal
 
 pub loop-number-preserved : goal.loop-number-preserved
 loop-number-preserved c =

@@ -1,7 +1,7 @@
 use Rattle.std.proofs.Common.{◌≡◌, map, take}
 use Rattle.std.specs.List.{range_with_len}
 use Rattle.tow_pred.specs.Found.{told}
-use Rattle.tow_pred.proofs.tests.are_numbered.Given as goal
+use Rattle.tow_pred.proofs.tests.calls.are_numbered.Given as goal
 
 -- the tests so far are numbered
 abbrev pub invariant-loop-number : goal.invariant-loop-number

@@ -2,7 +2,7 @@ use Rattle.std.proofs.Common.{sym, subst}
 use Rattle.tow_semantics.specs.Predicates.{AreAmong}
 use Rattle.tow_pred.specs.Numbering.{statement_patterns}
 use Rattle.tow_pred.proofs.Trees.{among_at_first}
-use Rattle.tow_pred.proofs.tests.first_holds.Goals as goal
+use Rattle.tow_pred.proofs.tests.calls.first_holds.Goals as goal
 
 pub asked-requires : goal.asked-requires
 asked-requires c =

@@ -1,0 +1,4 @@
+//! Predicates written by hand, and what they hold of and bind.
+
+mod calls;
+mod rows;
