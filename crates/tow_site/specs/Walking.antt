@@ -1,4 +1,4 @@
--- What the code's walk tells of a request at a moment. Each fact holds whatever the walk is not given: the folder, the
+-- What the code's walk says of a request at a moment. Each fact holds whatever the walk is not given: the folder, the
 -- content, the verdicts, and whether only a worker may go on, before and after.
 use Rattle.std.specs.Prelude.{◌≡◌, ℕ, false, List, [], Option}
 use Rattle.tow_model.specs.declared.action.Action.{Action}

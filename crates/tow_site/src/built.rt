@@ -1,3 +1,5 @@
+//! The trees whose walk is built so far.
+
 ghost use Rattle.std.specs.Prelude.{◌≡◌};
 ghost use Rattle.std.specs.List.{list_all};
 ghost use Rattle.tow_site.specs.Built as built;

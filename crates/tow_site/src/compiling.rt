@@ -1,3 +1,5 @@
+//! Handlers texts compiled.
+
 ghost use Rattle.std.specs.Prelude.{◌≡◌, ◌≢◌, ℕ, ◌≤◌, Err, List, length, IfOk, IfErr};
 ghost use Rattle.tow_language.specs.declared.kind.Kind.TheVariants as kinds;
 ghost use Rattle.tow_site.specs.Compiled.{HasTree, IsSiteOf, IsFaultOfText};

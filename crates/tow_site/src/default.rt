@@ -1,3 +1,5 @@
+//! The default handler, over an empty folder.
+
 ghost use Rattle.std.specs.Prelude.{◌≡◌, [], ◌∷◌, OnOk, codes};
 ghost use Rattle.tow_model.specs.Texts.{is_among};
 ghost use Rattle.tow_site.specs.Walking.{Defaults};

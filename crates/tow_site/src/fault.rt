@@ -1,3 +1,5 @@
+//! Why a text gives no site.
+
 use tow_language::Kind;
 
 /// Why a text gave no site.

@@ -4,8 +4,6 @@
 #![tactic(auto)]
 
 mod built;
-#[cfg(test)]
-mod compile_tests;
 mod compiling;
 mod default;
 mod fault;

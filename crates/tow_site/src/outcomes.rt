@@ -1,3 +1,5 @@
+//! The outcome of a request under a site.
+
 ghost use Rattle.std.specs.Prelude.{◌≡◌, ◌<◌, IfOk, IsTrue};
 ghost use Rattle.tow_model.specs.Dates.{first_undated};
 ghost use Rattle.tow_semantics.specs.Predicates.{AreAmong};
@@ -14,11 +16,9 @@ use crate::site::Site;
 use crate::walk::{Walked, walk_list};
 use std::alloc::{AllocError, Global};
 use tow_effect::answer;
+use tow_model::limits::MAX_RESTARTS;
 use tow_model::{Bytes, Choice, List, NoMemory, Record, Request, Statement};
 use tow_pred::Scratch;
-
-/// How often an exchange can begin its text again.
-const MOST_RESTARTS: u8 = 16;
 
 /// Who answers after the walks.
 #[derive(Clone, Copy, Debug, PartialEq, Eq)]
@@ -28,7 +28,8 @@ pub enum Answerer {
 }
 
 /// The record that the exchange of a request, at a moment in seconds since 1970, ends with under this site, over an empty
-/// folder. The scratch was made of the site's tests. Takes memory for the record and for what its tests look at.
+/// folder. The scratch was made of the site's tests. Takes memory for the record, the values and
+/// the bindings of its tests, and what its actions write.
 pub fn outcome(
     alloc: Global,
     site: &Site,
@@ -52,7 +53,7 @@ pub fn outcome(
         request,
         &mut record,
         moment,
-        MOST_RESTARTS,
+        MAX_RESTARTS,
     )? {
         Answerer::Text => {}
         Answerer::DefaultHandler => answer_by_default(alloc, request, &mut record)?,
@@ -60,7 +61,7 @@ pub fn outcome(
     Ok(record)
 }
 
-/// Walks over the text, and again where it asks for that, `left` times at most. One more answers 500.
+/// Walks over the text, and again if it asks for that, `left` times at most. One more answers 500.
 fn walk_again(
     alloc: Global,
     scratch: &mut Scratch<'_>,
@@ -68,7 +69,7 @@ fn walk_again(
     request: &Request,
     state: &mut Record,
     moment: u64,
-    left: u8,
+    left: usize,
 ) -> Result<Answerer, NoMemory>
     requires built { IsTrue (list_all is_built_statement statements.now) }
     requires among { AreAmong (tree_patterns statements.now) scratch.old }

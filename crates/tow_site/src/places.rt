@@ -1,3 +1,5 @@
+//! Lines and columns of a text.
+
 ghost use Rattle.std.specs.Prelude.{◌≡◌, ◌≤◌, ◌+◌, ◌==◌, not, min, length, count_by, take_while, reverse};
 ghost use Rattle.tow_site.specs.Compiled.{fault_of};
 
@@ -17,7 +19,7 @@ pub fn fault_at(text: &[u8], kind: Kind, place: usize) -> Fault
     }
 }
 
-/// 1 and the line ends of the bytes.
+/// The line, from 1, on which these bytes end.
 fn line_behind(front: &[u8]) -> u32
     requires { length front.now ≤ 65536 }
     ensures { result ≡ 1 + count_by (λ b. b == 10) front.now }
@@ -31,7 +33,7 @@ fn line_behind(front: &[u8]) -> u32
     line
 }
 
-/// 1 and the bytes behind the last line end.
+/// The column, from 1, in bytes, at which these bytes end.
 fn column_behind(front: &[u8]) -> u32
     requires { length front.now ≤ 65536 }
     ensures { result ≡ 1 + length (take_while (λ b. not (b == 10)) (reverse front.now)) }

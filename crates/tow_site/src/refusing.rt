@@ -1,3 +1,5 @@
+//! The faults of texts, with line and column.
+
 ghost use Rattle.std.specs.Prelude.{◌≡◌, ◌<◌, ◌≤◌, length, IfSome};
 ghost use Rattle.tow_language.specs.Fault.{IsFault};
 ghost use Rattle.tow_language.specs.Tokens.{IsTokenFault};
@@ -7,13 +9,11 @@ ghost use Rattle.tow_site.specs.Compiled.{IsTreeFault, pattern_fault, refused_nu
 
 use crate::fault::Fault;
 use crate::places::fault_at;
-use tow_lex::LexFault;
 use tow_language::Kind;
+use tow_lex::LexFault;
+use tow_model::limits::MAX_TEXT_LEN;
 use tow_parse::ParseFault;
 use tow_pred::PatternFault;
-
-/// The offset at which a text is too long.
-const MOST_BYTES: usize = 65_536;
 
 /// The fault of a text that has no tokens.
 pub fn fault_of_tokens(text: &[u8], fault: LexFault) -> Fault
@@ -24,12 +24,12 @@ pub fn fault_of_tokens(text: &[u8], fault: LexFault) -> Fault
         LexFault::UnclosedQuote(place) => fault_at(text, Kind::UnclosedQuote, place),
         LexFault::UnclosedBrace(place) => fault_at(text, Kind::UnclosedBrace, place),
         LexFault::StrayByte(place) => fault_at(text, Kind::StrayByte, place),
-        LexFault::TooLong => fault_at(text, Kind::TooLong, MOST_BYTES),
+        LexFault::TooLong => fault_at(text, Kind::TooLong, MAX_TEXT_LEN),
         LexFault::NoMemory => Fault::NoMemory,
     }
 }
 
-/// The fault of a text one of whose patterns is refused, where the patterns' values stand at these places.
+/// The fault of a text one of whose patterns is refused. The patterns' values stand at these places.
 pub fn fault_of_pattern(text: &[u8], places: &[usize], fault: PatternFault) -> Fault
     requires short { length text.now ≤ 65536 }
     requires placed { IfSome (refused_number fault) (λ n. n < length places.now) }

@@ -1,3 +1,5 @@
+//! What a handlers text is once it compiled.
+
 ghost use Rattle.std.specs.Prelude.{◌≡◌, length, IfOk};
 ghost use Rattle.tow_pred.specs.Numbering.{IsNumbered};
 ghost use Rattle.tow_site.specs.Compiled.{pattern_texts};
@@ -30,7 +32,7 @@ impl Model for Site {
 }
 
 impl Site {
-    /// The site of a tree whose patterns were built; none where its statements are too many to be numbered.
+    /// The site of a tree whose patterns were built; none if its statements are too many to be numbered.
     pub fn new(tree: Tree, patterns: List<usize>, tests: Tests) -> Result<Site, NoMemory>
         requires tests { tests ≡ pattern_texts tree }
         requires numbered { IsNumbered tree }
@@ -71,7 +73,7 @@ impl Site {
     }
 
     /// The offset of each pattern's value, in the order of the text.
-    pub fn patterns(&self) -> &[usize]
+    pub fn pattern_places(&self) -> &[usize]
         ensures { result.now ≡ self.now.patterns }
     {
         self.patterns.as_slice()

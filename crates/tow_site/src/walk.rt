@@ -1,3 +1,5 @@
+//! The walk over statements.
+
 ghost use Rattle.std.specs.Prelude.{◌≡◌, ◌<◌, IfOk, IsTrue};
 ghost use Rattle.std.specs.List.{list_all};
 ghost use Rattle.tow_model.specs.Dates.{first_undated};
@@ -13,7 +15,7 @@ use tow_pred::{Scratch, holds};
 
 /// How a walk over statements ends.
 #[derive(Clone, Copy, Debug, PartialEq, Eq)]
-pub enum Walked {
+pub(crate) enum Walked {
     /// The next statement follows.
     Next,
     /// The answer is decided.
@@ -24,9 +26,10 @@ pub enum Walked {
     Restarted,
 }
 
-/// Walks from the left, until a statement does not go on to the next one. Takes memory for values and bindings.
+/// Walks from the left, until a statement does not go on to the next one. Takes memory for values, bindings and what actions
+/// write.
 #[cycle(walk)]
-pub fn walk_list(
+pub(crate) fn walk_list(
     alloc: Global,
     scratch: &mut Scratch<'_>,
     statements: &[Statement],

@@ -3,8 +3,8 @@
 use crate::{Fault, compile};
 use std::alloc::{AllocError, Global};
 use std::test::Fail;
-use tow_link::{KeyCounts, MemoryMaker, PackMaker};
 use tow_language::Kind;
+use tow_link::{KeyCounts, MemoryMaker, PackMaker};
 
 /// Texts, how many statements they have, and how many patterns.
 const COMPILED: [(&[u8], u32, usize); 8] = [
@@ -114,7 +114,7 @@ fn is_fault(alloc: Global, text: &[u8], wanted: Fault) -> bool {
 /// Whether the text has so many statements and patterns.
 fn is_site(alloc: Global, text: &[u8], statements: u32, patterns: usize) -> bool {
     match compile(alloc, text, &mut PackMaker::new()) {
-        Ok(site) => { site.statements() == statements && site.patterns().len() == patterns }
+        Ok(site) => { site.statements() == statements && site.pattern_places().len() == patterns }
         Err(_) => false,
     }
 }

@@ -1,0 +1,4 @@
+//! Texts with their faults, and what texts come to for a request.
+
+mod compiled;
+mod outcomes;
