@@ -53,7 +53,8 @@ impl Pipe {
     /// Appends the first bytes of `from`, as many as fit, and answers how many. Takes no memory.
     pub fn put(&mut self, from: &[u8]) -> usize
         ensures count { result ≡ min (length from.now) (self.old.capacity - length self.old.items) }
-        ensures after { self.new ≡ buffer (self.old.items ++ take result from.now) self.old.capacity }
+        ensures after { self.new ≡
+            buffer (self.old.items ++ take result from.now) self.old.capacity }
     {
         self.ring.fill_from_slice(from)
     }

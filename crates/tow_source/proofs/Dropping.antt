@@ -1,11 +1,11 @@
 -- What a drain has dropped so far, call by call.
-use Rattle.std.proofs.Common.{◌≡◌, ℕ, List, [], ◌++◌, length, refl, sym, ap, ◌∙◌, subst, append_assoc, append-nil}
+use Rattle.std.proofs.Common.{◌≡◌, ℕ, List, [], ◌++◌, refl, sym, ap, ◌∙◌, subst, append_assoc, append-nil}
 use Rattle.circular_buffer.specs.Buffer.{Buffer}
 use Rattle.tow_source.specs.declared.body.Body.{Body}
-use Rattle.tow_source.specs.declared.body.Body.TheVariants.{Got, NotYet, End, Bad, TooLong}
+use Rattle.tow_source.specs.declared.body.Body.TheVariants.{Got}
 use Rattle.tow_source.specs.declared.body.Drained.{Drained}
 use Rattle.tow_source.specs.declared.body.Drained.TheVariants as Drains
-use Rattle.tow_source.specs.Readings.{Reading, IsOver, Takes, Reads, Onward, DrainsPipe, answer_of, DrainTells}
+use Rattle.tow_source.specs.Readings.{Reading, IsOver, Reads, Onward, DrainsPipe, answer_of, DrainTells}
 
 -- bytes were taken, and where the reading was over nothing has changed
 pub record Dropped (piped piped' : Buffer ℕ) (old new : Reading) : Type 0 where

@@ -1,14 +1,13 @@
 -- The four answers of a source of a content of known length.
-use Rattle.std.proofs.Common.{◌≡◌, ◌≢◌, ℕ, ◌+◌, ◌-◌, ◌<◌, ◌≤◌, List, [], ◌∷◌, ◌++◌, length, take, drop, replicate, min, refl, sym, ap, ap₂, ◌∙◌, subst, arith, append-nil, length-append, take_at, length-take-le}
+use Rattle.std.proofs.Common.{◌≡◌, ◌≢◌, ℕ, ◌+◌, ◌-◌, ◌<◌, ◌≤◌, List, [], ◌++◌, length, take, drop, replicate, refl, sym, ap, ap₂, ◌∙◌, subst, arith, append-nil, length-append, take_at, length-take-le}
 use Rattle.std.proofs.lemmas.List.{take-append-drop, take-append-le, length-drop, length-replicate, nil_from_length}
-use Rattle.circular_buffer.specs.Buffer.{Buffer, buffer}
+use Rattle.circular_buffer.specs.Buffer.{Buffer}
 use Rattle.tow_model.specs.declared.limits.TheConstants.{MAX_CONTENT_LEN}
 use Rattle.tow_model.specs.declared.request.Framing.{Framing}
 use Rattle.tow_model.specs.declared.request.Framing.TheVariants.{Fixed}
 use Rattle.tow_model.specs.declared.content.Content.TheVariants as Contents
 use Rattle.tow_message.specs.Contents.{IsContent, HasContent, IsShort}
-use Rattle.tow_source.specs.declared.body.Body.{Body}
-use Rattle.tow_source.specs.declared.body.Body.TheVariants.{Got, NotYet, End, Bad, TooLong}
+use Rattle.tow_source.specs.declared.body.Body.TheVariants.{Got, NotYet, End, TooLong}
 use Rattle.tow_source.specs.declared.fixed.FixedSource.{FixedSource}
 use Rattle.tow_source.specs.Moves.{Moves}
 use Rattle.tow_source.specs.FixedReading.{ReadsFixed}

@@ -1,5 +1,5 @@
 -- What a source of a content of known length has read.
-use Rattle.std.specs.Prelude.{◌≡◌, ℕ, ◌+◌, ◌<◌, [], length}
+use Rattle.std.specs.Prelude.{◌≡◌, ◌+◌, ◌<◌, [], length}
 use Rattle.tow_model.specs.declared.limits.TheConstants.{MAX_CONTENT_LEN}
 use Rattle.tow_model.specs.declared.request.Framing.TheVariants.{Fixed}
 use Rattle.tow_source.specs.declared.fixed.FixedSource.{FixedSource}

@@ -26,7 +26,8 @@ impl<S> Drain<S> {
 impl<S: BodySource> Drain<S> {
     /// Takes what the pipe holds of the content. After an end the same answer comes again. Takes no memory.
     pub fn run(&mut self, from: &mut Pipe) -> Drained
-        ensures { Onward (S.reads self.old.source) (S.reads self.new.source) (DrainsPipe result from.old from.new) }
+        ensures { Onward (S.reads self.old.source) (S.reads self.new.source)
+            (DrainsPipe result from.old from.new) }
     {
         let mut bytes = [0u8; STEP_LEN];
         loop {

@@ -15,6 +15,7 @@ pub trait BodySource {
     /// memory. After an end the same answer comes again.
     fn read(&mut self, from: &mut Pipe, to: &mut [u8]) -> Body
         requires { 0 < length to.old }
-        ensures law { Onward (reads self.old) (reads self.new) (Reads result from.old from.new to.new) }
+        ensures law { Onward (reads self.old) (reads self.new)
+            (Reads result from.old from.new to.new) }
         ensures pace { KeepsPace result from.old from.new to.new };
 }

@@ -1,5 +1,4 @@
-use Rattle.std.proofs.Common.{◌≡◌, arith}
-use Rattle.tow_source.proofs.Dropping.{nothing_dropped, more_dropped, drained}
+use Rattle.tow_source.proofs.Dropping.{nothing_dropped}
 use Rattle.tow_source.proofs.drain.Drain.run.Goals as goal
 
 pub loop-init : goal.loop-init

@@ -1,4 +1,4 @@
-use Rattle.std.proofs.Common.{◌≡◌, ◌≢◌, ◌+◌, ◌≤◌, ◌<◌, length, refl, arith}
+use Rattle.std.proofs.Common.{◌≤◌, refl, arith}
 use Rattle.tow_model.specs.declared.limits.TheConstants.{MAX_CONTENT_LEN}
 use Rattle.tow_source.proofs.FixedAnswers.{says_end, says_not_yet, says_got}
 use Rattle.tow_source.proofs.fixed.FixedSourceBodySource.read.Goals as goal
