@@ -112,7 +112,8 @@ impl State {
             Goal::Parameters { heading, phase } => self.take_parameters(
                 heading, phase, look, text, token,
             ),
-            Goal::Told(_) | Goal::Called { .. } => Err(ParseFault::NoMemory),
+            // No token is read for these two: the reader passes them before it looks at the next one.
+            Goal::Told(_) | Goal::Called { .. } => unreachable!(),
         }
     }
 }
