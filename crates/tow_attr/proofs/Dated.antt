@@ -1,11 +1,10 @@
 -- The log's moment, from the bytes of the date field.
-use Rattle.std.proofs.Common.{◌≡◌, ℕ, ◌+◌, ◌-◌, ◌*◌, ◌/◌, ◌%◌, ◌<◌, ◌≤◌, Bool, true, ◌==◌, List, [], ◌∷◌, ◌++◌, codes, length, slice_index_or, refl, sym, ap, ◌∙◌, subst, arith}
+use Rattle.std.proofs.Common.{◌≡◌, ℕ, ◌+◌, ◌-◌, ◌*◌, ◌/◌, ◌%◌, ◌<◌, ◌≤◌, Bool, true, ◌==◌, List, [], ◌∷◌, ◌++◌, codes, length, slice_index_or, refl, ap, ◌∙◌, subst, arith}
 use Rattle.std.proofs.lemmas.Bool.{agree_below, agree_below_at}
 use Rattle.std.proofs.lemmas.Bool.Decides.{nat_tests}
 use Rattle.httpdate.specs.declared.parts.Parts.{Parts}
 use Rattle.httpdate.specs.Valid.{IsValid}
 use Rattle.httpdate.specs.Text.{imf_fixdate, day_name, month_name}
-use Rattle.httpdate.proofs.Theorems.{unix_secs_injective}
 use Rattle.tow_model.specs.Dates.{IsAt, IsDate, parts_at, parts_of, log_day, log_date_of}
 use Rattle.tow_model.proofs.DateProofs.{one_moment, parts_are}
 

@@ -22,7 +22,8 @@ pub fn append_attribute(
     moment: u64,
 ) -> Result<(), AllocError>
     requires dated { moment < first_undated }
-    ensures { OnOk result (out.new.items ≡ out.old.items ++ attribute_of attribute.now request.now exchange.now moment) }
+    ensures { OnOk result (out.new.items
+        ≡ out.old.items ++ attribute_of attribute.now request.now exchange.now moment) }
 {
     match attribute {
         Attribute::Method => out.extend_from_slice(request.method.as_slice()),
@@ -47,7 +48,8 @@ pub fn append_attribute(
 
 /// Writes the query behind its `?`, where there is one.
 fn append_query(out: &mut Vec<u8>, query: &Option<Bytes>) -> Result<(), AllocError>
-    ensures { OnOk result (out.new.items ≡ out.old.items ++ or_empty (option_map (λ q. codes "?" ++ q) query.now)) }
+    ensures { OnOk result (out.new.items
+        ≡ out.old.items ++ or_empty (option_map (λ q. codes "?" ++ q) query.now)) }
 {
     if let Some(query) = query {
         out.extend_from_slice(b"?")?;
@@ -59,7 +61,8 @@ fn append_query(out: &mut Vec<u8>, query: &Option<Bytes>) -> Result<(), AllocErr
 /// Writes the request line without its line break (RFC 9112, section 3).
 fn append_request_line(out: &mut Vec<u8>, request: &Request) -> Result<(), AllocError>
     ensures { OnOk result (out.new.items
-        ≡ out.old.items ++ request.now.method ++ codes " " ++ request.now.target ++ codes " " ++ protocol request.now.version) }
+        ≡ out.old.items ++ request.now.method ++ codes " " ++ request.now.target ++ codes " "
+        ++ protocol request.now.version) }
 {
     out.extend_from_slice(request.method.as_slice())?;
     out.extend_from_slice(b" ")?;
@@ -84,7 +87,8 @@ fn append_parameter_of(
     query: &Option<Bytes>,
     name: &Bytes,
 ) -> Result<(), AllocError>
-    ensures { OnOk result (out.new.items ≡ out.old.items ++ or_empty (bound_to name.now (query_parameters query.now))) }
+    ensures { OnOk result (out.new.items
+        ≡ out.old.items ++ or_empty (bound_to name.now (query_parameters query.now))) }
 {
     match query {
         Some(query) => append_parameter(out, query.as_slice(), name.as_slice()),

@@ -14,7 +14,8 @@ pub(crate) fn append_sent_or_dash(
     exchange: &Record,
 ) -> Result<(), AllocError>
     ensures { OnOk result (out.new.items ≡ out.old.items
-        ++ (if sent request.now exchange.now == 0 then codes "-" else decimal (sent request.now exchange.now))) }
+        ++ (if sent request.now exchange.now == 0 then codes "-" else decimal
+        (sent request.now exchange.now))) }
 {
     match sent(request, exchange) {
         0 => out.extend_from_slice(b"-"),

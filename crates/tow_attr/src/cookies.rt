@@ -19,7 +19,8 @@ pub(crate) fn append_cookie(
     fields: &[Field],
     name: &[u8],
 ) -> Result<(), AllocError>
-    ensures { OnOk result (out.new.items ≡ out.old.items ++ or_empty (bound_to name.now (cookies_of fields.now))) }
+    ensures { OnOk result (out.new.items
+        ≡ out.old.items ++ or_empty (bound_to name.now (cookies_of fields.now))) }
 {
     match first_cookie(fields, name) {
         Some(cookie) => out.extend_from_slice(value_of(trimmed(cookie))),

@@ -31,7 +31,8 @@ impl Draft {
     /// Adds bytes that stand for themselves.
     pub fn put_bytes(&mut self, bytes: &[u8]) -> Result<(), AllocError>
         ensures pieces { OnOk result (self.new.pieces ≡ self.old.pieces) }
-        ensures literal { OnOk result (self.new.literal.items ≡ self.old.literal.items ++ bytes.now) }
+        ensures literal { OnOk result (self.new.literal.items
+            ≡ self.old.literal.items ++ bytes.now) }
     {
         self.literal.extend_from_slice(bytes)?;
         Ok(())
@@ -39,7 +40,8 @@ impl Draft {
 
     /// Adds an attribute.
     pub fn put_value(&mut self, attribute: Attribute) -> Result<(), AllocError>
-        ensures pieces { OnOk result (self.new.pieces ≡ self.old.pieces ++ (literal_of self.old.literal.items ++ Value attribute ∷ [])) }
+        ensures pieces { OnOk result (self.new.pieces
+            ≡ self.old.pieces ++ (literal_of self.old.literal.items ++ Value attribute ∷ [])) }
         ensures literal { OnOk result (self.new.literal.items ≡ []) }
     {
         self.end_literal()?;
@@ -58,7 +60,8 @@ impl Draft {
 
     /// Makes the bytes at the end a piece.
     fn end_literal(&mut self) -> Result<(), AllocError>
-        ensures pieces { OnOk result (self.new.pieces ≡ self.old.pieces ++ literal_of self.old.literal.items) }
+        ensures pieces { OnOk result (self.new.pieces
+            ≡ self.old.pieces ++ literal_of self.old.literal.items) }
         ensures literal { OnOk result (self.new.literal.items ≡ []) }
     {
         if !self.literal.is_empty() {

@@ -23,7 +23,8 @@ pub(crate) fn append_values(
     fields: &List<Field>,
     name: &Bytes,
 ) -> Result<(), AllocError>
-    ensures { OnOk result (out.new.items ≡ out.old.items ++ joined (values_of name.now fields.now)) }
+    ensures { OnOk result (out.new.items
+        ≡ out.old.items ++ joined (values_of name.now fields.now)) }
 {
     let mut is_first = true;
     for field in fields.as_slice() {
@@ -37,7 +38,8 @@ pub(crate) fn append_values(
 
 /// Writes a field's value, behind a comma where it is not the first.
 fn append_value(out: &mut Vec<u8>, field: &Field, is_first: bool) -> Result<(), AllocError>
-    ensures { OnOk result (out.new.items ≡ out.old.items ++ (if is_first then field.now.value else codes ", " ++ field.now.value)) }
+    ensures { OnOk result (out.new.items
+        ≡ out.old.items ++ (if is_first then field.now.value else codes ", " ++ field.now.value)) }
 {
     if !is_first {
         out.extend_from_slice(b", ")?;
@@ -51,7 +53,8 @@ pub(crate) fn append_binding(
     context: &List<Field>,
     name: &Bytes,
 ) -> Result<(), AllocError>
-    ensures { OnOk result (out.new.items ≡ out.old.items ++ or_empty (bound_to name.now context.now)) }
+    ensures { OnOk result (out.new.items
+        ≡ out.old.items ++ or_empty (bound_to name.now context.now)) }
 {
     match first_binding(context.as_slice(), name.as_slice()) {
         Some(binding) => out.extend_from_slice(binding.value.as_slice()),

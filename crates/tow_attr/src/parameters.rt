@@ -19,7 +19,8 @@ pub(crate) fn append_parameter(
     query: &[u8],
     name: &[u8],
 ) -> Result<(), AllocError>
-    ensures { OnOk result (out.new.items ≡ out.old.items ++ or_empty (bound_to name.now (query_parameters (Some query.now)))) }
+    ensures { OnOk result (out.new.items
+        ≡ out.old.items ++ or_empty (bound_to name.now (query_parameters (Some query.now)))) }
 {
     match first_parameter(query, name) {
         Some(parameter) => percent_decode(value_of(parameter)).append_to(out),

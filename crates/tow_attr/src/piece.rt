@@ -23,8 +23,10 @@ pub fn plain_end(text: &[u8], from: usize) -> usize
     requires { from ≤ length text.now }
     ensures forward { from ≤ result }
     ensures within { result ≤ length text.now }
-    ensures plain { rest_from text.now from ≡ plain_ahead (slice_range text.now from result) (rest_from text.now result) }
-    ensures value { result < length text.now → begins_value (slice_index text.now result) (drop (result + 1) text.now) ≡ true }
+    ensures plain { rest_from text.now from
+        ≡ plain_ahead (slice_range text.now from result) (rest_from text.now result) }
+    ensures value { result < length text.now
+        → begins_value (slice_index text.now result) (drop (result + 1) text.now) ≡ true }
 {
     let mut at = from;
     while at < text.len() && !value_at(text, at) {
@@ -39,7 +41,8 @@ pub fn value_end(text: &[u8], from: usize) -> Option<usize>
     requires value { begins_value (slice_index text.now from) (drop (from + 1) text.now) ≡ true }
     ensures forward { IfSome result (λ to. from + 1 < to) }
     ensures within { IfSome result (λ to. to ≤ length text.now) }
-    ensures whole { IfSome result (λ to. rest_from text.now from ≡ with_first (piece_of (slice_range text.now from to)) (rest_from text.now to) from) }
+    ensures whole { IfSome result (λ to. rest_from text.now from
+        ≡ with_first (piece_of (slice_range text.now from to)) (rest_from text.now to) from) }
     ensures letter { slice_index text.now (from + 1) ≢ 123 → IfSome result (λ to. to ≡ from + 2) }
     ensures open { IfNone result (rest_from text.now from ≡ Err from) }
 {

@@ -13,7 +13,8 @@ use tow_model::Template;
 /// `%`, and the names of fields are kept in lower case. Takes memory for the pieces and their names.
 pub fn read_template(alloc: Global, text: &[u8]) -> Result<Template, TemplateFault>
     ensures ok { IfOk result (λ t. template_of text.now ≡ Ok t) }
-    ensures bad { (place : ℕ) → IsErrOf result (TemplateFault.BadAttribute place) → template_of text.now ≡ Err place }
+    ensures bad { (place : ℕ) → IsErrOf result (TemplateFault.BadAttribute place)
+        → template_of text.now ≡ Err place }
 {
     let mut draft = Draft::new(alloc);
     let mut at = 0;
@@ -38,9 +39,11 @@ fn read_value(
     requires value { begins_value (slice_index text.now from) (drop (from + 1) text.now) ≡ true }
     ensures forward { IfOk result (λ to. from < to) }
     ensures within { IfOk result (λ to. to ≤ length text.now) }
-    ensures ok { IfOk result (λ to. ahead draft.old.pieces draft.old.literal.items (rest_from text.now from)
+    ensures ok { IfOk result (λ to. ahead draft.old.pieces draft.old.literal.items
+        (rest_from text.now from)
         ≡ ahead draft.new.pieces draft.new.literal.items (rest_from text.now to)) }
-    ensures bad { (place : ℕ) → IsErrOf result (TemplateFault.BadAttribute place) → (place ≡ from) × (rest_from text.now from ≡ Err place) }
+    ensures bad { (place : ℕ) → IsErrOf result (TemplateFault.BadAttribute place)
+        → (place ≡ from) × (rest_from text.now from ≡ Err place) }
 {
     let Some(to) = value_end(text, from) else {
         return Err(TemplateFault::BadAttribute(from));

@@ -39,7 +39,8 @@ fn append_pieces(
 ) -> Result<(), AllocError>
     requires dated { moment < first_undated }
     ensures { OnOk result (take MAX_VALUE_LEN out.new.items
-        ≡ take MAX_VALUE_LEN (out.old.items ++ flat_map (λ p. piece_of p request.now exchange.now moment) pieces.now)) }
+        ≡ take MAX_VALUE_LEN (out.old.items
+        ++ flat_map (λ p. piece_of p request.now exchange.now moment) pieces.now)) }
 {
     for piece in pieces {
         if out.len() >= LONGEST_VALUE {
@@ -59,7 +60,8 @@ fn append_piece(
     moment: u64,
 ) -> Result<(), AllocError>
     requires dated { moment < first_undated }
-    ensures { OnOk result (out.new.items ≡ out.old.items ++ piece_of piece.now request.now exchange.now moment) }
+    ensures { OnOk result (out.new.items
+        ≡ out.old.items ++ piece_of piece.now request.now exchange.now moment) }
 {
     match piece {
         Piece::Literal(bytes) => out.extend_from_slice(bytes.as_slice()),

@@ -1,9 +1,8 @@
 -- What a call of `effect` shows: its answer, and the record that it leaves.
-use Rattle.std.specs.Prelude.{◌≡◌, Bool, Option, Some, None, ⊤}
+use Rattle.std.specs.Prelude.{Option, Some, None}
 use Rattle.tow_model.specs.declared.record.Record.{Record}
 use Rattle.tow_semantics.specs.Effects as model
 use Rattle.tow_semantics.specs.Steps as step
-use Rattle.tow_model.specs.Texts.{Text}
 use Rattle.tow_effect.specs.declared.outcome.Effect.{Effect}
 use Rattle.tow_effect.specs.declared.outcome.Effect.TheVariants.{Go, Stop, Ask, Content, Page, Restart, ToDefault, NoMemory}
 use Rattle.tow_effect.specs.declared.outcome.Assign.{Assign}

@@ -35,9 +35,11 @@ pub fn effect(
     moment: u64,
 ) -> Effect
     requires dated { moment < first_undated }
-    ensures value { IfSome (shown result exchange.new) (λ e. e ≡ effect_of action.now request.now exchange.old moment) }
+    ensures value { IfSome (shown result exchange.new) (λ e. e
+        ≡ effect_of action.now request.now exchange.old moment) }
     ensures unchanged { result ≢ Effect.Go → result ≢ Effect.Stop → exchange.new ≡ exchange.old }
-    ensures plain { takes_memory action.now ≡ false → makes_path action.now exchange.old ≡ false → result ≢ Effect.NoMemory }
+    ensures plain { takes_memory action.now ≡ false → makes_path action.now exchange.old ≡ false
+        → result ≢ Effect.NoMemory }
 {
     match action {
         Action::Set { target, value } => {

@@ -15,7 +15,8 @@ use tow_text::{add_field, has_name, set_field};
 
 /// Sets the response field to the one value. Takes memory for its name and its place.
 pub(crate) fn write_field(alloc: Global, name: &[u8], value: Bytes, exchange: &mut Record) -> Assign
-    ensures { Writes (with_fields value (set_to name.now value exchange.old.fields) exchange.old) result exchange.old exchange.new }
+    ensures { Writes (with_fields value (set_to name.now value exchange.old.fields) exchange.old)
+        result exchange.old exchange.new }
 {
     if is_full(exchange.fields.as_slice(), name) || !is_header_value(value.as_slice()) {
         return Assign::BadValue;
@@ -28,7 +29,8 @@ pub(crate) fn write_field(alloc: Global, name: &[u8], value: Bytes, exchange: &m
 
 /// Adds a response field with the value. Takes memory for its name and its place.
 pub(crate) fn write_more(alloc: Global, name: &[u8], value: Bytes, exchange: &mut Record) -> Assign
-    ensures { Writes (with_fields value (exchange.old.fields ++ field name.now value ∷ []) exchange.old) result exchange.old exchange.new }
+    ensures { Writes (with_fields value (exchange.old.fields
+        ++ field name.now value ∷ []) exchange.old) result exchange.old exchange.new }
 {
     if exchange.fields.len() >= MAX_RESPONSE_FIELDS || !is_header_value(value.as_slice()) {
         return Assign::BadValue;
@@ -41,7 +43,8 @@ pub(crate) fn write_more(alloc: Global, name: &[u8], value: Bytes, exchange: &mu
 
 /// Whether there is no room for one more field, and none of the name gives its place.
 fn is_full(fields: &[Field], name: &[u8]) -> bool
-    ensures { (value : Text) → result ≡ not (is_room fields.now (set_to name.now value fields.now)) }
+    ensures { (value : Text)
+        → result ≡ not (is_room fields.now (set_to name.now value fields.now)) }
 {
     fields.len() >= MAX_RESPONSE_FIELDS && others_count(fields, name) == fields.len()
 }

@@ -10,7 +10,8 @@ use tow_model::Record;
 
 /// Sets the status that the text writes. Takes no memory.
 pub(crate) fn write_status(text: &[u8], exchange: &mut Record) -> Assign
-    ensures writes { Writes (option_map (λ n. record exchange.old { status = n }) (model.read_status text.now)) result exchange.old exchange.new }
+    ensures writes { Writes (option_map (λ n. record exchange.old { status = n })
+        (model.read_status text.now)) result exchange.old exchange.new }
     ensures plain { result ≢ Assign.NoMemory }
 {
     match read_status(text) {

@@ -21,7 +21,8 @@ use tow_text::{bind, field_with};
 /// section 5.5), and none is added to 256 or more; a name of the context is bound. Takes memory for the path, the query after
 /// it, the field or the binding, and for nothing else.
 pub fn assign(alloc: Global, target: &Target, value: Bytes, exchange: &mut Record) -> Assign
-    ensures assigned { result ≡ Assign.Assigned → assigned target.now value exchange.old ≡ Some exchange.new }
+    ensures assigned { result ≡ Assign.Assigned
+        → assigned target.now value exchange.old ≡ Some exchange.new }
     ensures bad { result ≡ Assign.BadValue → assigned target.now value exchange.old ≡ None }
     ensures unchanged { result ≢ Assign.Assigned → exchange.new ≡ exchange.old }
     ensures plain { target_takes_memory target.now ≡ false → result ≢ Assign.NoMemory }

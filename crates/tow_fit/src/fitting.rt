@@ -36,7 +36,8 @@ use tow_model::{Action, Test};
 
 /// The test that a call stands for by the table of predicates. Takes memory for its texts.
 pub fn fitted_test(alloc: Global, call: Call, counts: &mut Counts) -> Result<Test, ParseFault>
-    ensures ok { IfOk result (λ t. fits.fit_test (call_of call) (counts_of counts.old) ≡ Ok (t, counts_of counts.new)) }
+    ensures ok { IfOk result (λ t. fits.fit_test (call_of call) (counts_of counts.old)
+        ≡ Ok (t, counts_of counts.new)) }
     ensures err { IfErr result (λ e. Fails e (fits.fit_test (call_of call) (counts_of counts.old))) }
 {
     let Call { name, parameters } = call;
@@ -53,8 +54,11 @@ fn test_of(
     parameters: WrittenParameters,
     counts: &mut Counts,
 ) -> Result<Test, ParseFault>
-    ensures ok { IfOk result (λ t. test_in test place (parameters_of parameters) (counts_of counts.old) ≡ Ok (t, counts_of counts.new)) }
-    ensures err { IfErr result (λ e. Fails e (test_in test place (parameters_of parameters) (counts_of counts.old))) }
+    ensures ok { IfOk result (λ t. test_in test place (parameters_of parameters)
+        (counts_of counts.old)
+        ≡ Ok (t, counts_of counts.new)) }
+    ensures err { IfErr result (λ e. Fails e
+        (test_in test place (parameters_of parameters) (counts_of counts.old))) }
 {
     let rows = rows_in(test.signature().parameters);
     let givens = givens_of(alloc, rows, place, parameters)?;
@@ -63,8 +67,10 @@ fn test_of(
 
 /// The action that a call stands for by the table of handlers. Takes memory for its texts.
 pub fn fitted_action(alloc: Global, call: Call, counts: &mut Counts) -> Result<Action, ParseFault>
-    ensures ok { IfOk result (λ a. fits.fit_action (call_of call) (counts_of counts.old) ≡ Ok (a, counts_of counts.new)) }
-    ensures err { IfErr result (λ e. Fails e (fits.fit_action (call_of call) (counts_of counts.old))) }
+    ensures ok { IfOk result (λ a. fits.fit_action (call_of call) (counts_of counts.old)
+        ≡ Ok (a, counts_of counts.new)) }
+    ensures err { IfErr result (λ e. Fails e
+        (fits.fit_action (call_of call) (counts_of counts.old))) }
 {
     let Call { name, parameters } = call;
     match Handler::named(name.bytes.as_slice()) {
@@ -80,8 +86,11 @@ fn action_of(
     parameters: WrittenParameters,
     counts: &mut Counts,
 ) -> Result<Action, ParseFault>
-    ensures ok { IfOk result (λ a. action_in handler place (parameters_of parameters) (counts_of counts.old) ≡ Ok (a, counts_of counts.new)) }
-    ensures err { IfErr result (λ e. Fails e (action_in handler place (parameters_of parameters) (counts_of counts.old))) }
+    ensures ok { IfOk result (λ a. action_in handler place (parameters_of parameters)
+        (counts_of counts.old)
+        ≡ Ok (a, counts_of counts.new)) }
+    ensures err { IfErr result (λ e. Fails e
+        (action_in handler place (parameters_of parameters) (counts_of counts.old))) }
 {
     let rows = rows_in(handler.signature().parameters);
     let givens = givens_of(alloc, rows, place, parameters)?;

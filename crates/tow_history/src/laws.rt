@@ -20,7 +20,8 @@ pub fn few_inside()
 /// Tickets are granted in the order in which they were drawn, each at most once. A ticket that was
 /// granted is below the leavings and the places together; one that still waits is not.
 pub fn granted_in_order()
-    ensures once { (h : List Entry) (most queue : ℕ) → legal h most queue → rising (drawn_tickets h) }
+    ensures once { (h : List Entry) (most queue : ℕ) → legal h most queue
+        → rising (drawn_tickets h) }
     ensures order { (h : List Entry)
         → drawn_tickets h ≡ granted_tickets h ++ tickets (state_after h).line }
     ensures granted { (h : List Entry) (most queue : ℕ) → legal h most queue

@@ -19,7 +19,8 @@ const MOST_BYTES: usize = 65_536;
 /// Cuts a text into its tokens. Takes memory for them.
 pub fn tokens(alloc: Global, text: &[u8]) -> Result<Tokens, LexFault>
     ensures ok { IfOk result (λ tokens. Cuts text.now tokens) }
-    ensures err { IfErr result (λ fault. IfSome (lex_fault fault) (λ f. IsTokenFault text.now f.kind f.place)) }
+    ensures err { IfErr result (λ fault. IfSome (lex_fault fault)
+        (λ f. IsTokenFault text.now f.kind f.place)) }
 {
     if text.len() > MOST_BYTES {
         return Err(LexFault::TooLong);

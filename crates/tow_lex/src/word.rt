@@ -53,10 +53,14 @@ pub fn word_end(text: &[u8], from: usize) -> Result<usize, usize>
     requires { from ≤ length text.now }
     ensures forward { IfOk result (λ to. from ≤ to) }
     ensures within { IfOk result (λ to. to ≤ length text.now) }
-    ensures pieces { IfOk result (λ to. are_pieces false (slice_range text.now from to) (drop to text.now) ≡ true) }
+    ensures pieces { IfOk result (λ to. are_pieces false (slice_range text.now from to)
+        (drop to text.now)
+        ≡ true) }
     ensures longest { IfOk result (λ to. no_piece (drop to text.now) ≡ true) }
     ensures place { IfErr result (λ at. from ≤ at) }
-    ensures before { IfErr result (λ at. are_pieces false (slice_range text.now from at) (drop at text.now) ≡ true) }
+    ensures before { IfErr result (λ at. are_pieces false (slice_range text.now from at)
+        (drop at text.now)
+        ≡ true) }
     ensures open { IfErr result (λ at. IsOpenBrace (drop at text.now)) }
 {
     let mut at = from;

@@ -17,8 +17,11 @@ use tow_fit::ParseFault;
 /// the tree.
 pub fn assembled(alloc: Global, parts: Vec<Part>) -> Result<Parsed, ParseFault>
     requires whole { (raw : RawList) × (parts_of raw ≡ map raw_part parts.items) }
-    ensures ok { (raw : RawList) → parts_of raw ≡ map raw_part parts.items → IfOk result (λ p. (n : fits.Counts) × (fits.fit raw ≡ Ok (p.tree, n)) × (p.patterns ≡ n.patterns)) }
-    ensures err { (raw : RawList) → parts_of raw ≡ map raw_part parts.items → IfErr result (λ e. Fails e (fits.fit raw)) }
+    ensures ok { (raw : RawList) → parts_of raw ≡ map raw_part parts.items
+        → IfOk result (λ p. (n : fits.Counts) × (fits.fit raw ≡ Ok (p.tree, n))
+        × (p.patterns ≡ n.patterns)) }
+    ensures err { (raw : RawList) → parts_of raw ≡ map raw_part parts.items
+        → IfErr result (λ e. Fails e (fits.fit raw)) }
 {
     let mut builder = Builder::new(alloc);
     for part in parts {

@@ -30,8 +30,10 @@ impl State {
         requires shows { Shows look (symbol_of text.now token).sign }
         requires waits { opens look ≡ true }
         requires shaped { Shaped (Named role name ∷ self.old.goals) }
-        ensures ok { OnOk result (Takes (Named role name ∷ self.old.goals) self.old (symbol_of text.now token) self.new) }
-        ensures err { IfErr result (λ e. Stops (Named role name ∷ self.old.goals) self.old (symbol_of text.now token) e) }
+        ensures ok { OnOk result (Takes (Named role name ∷ self.old.goals) self.old
+            (symbol_of text.now token) self.new) }
+        ensures err { IfErr result (λ e. Stops (Named role name ∷ self.old.goals) self.old
+            (symbol_of text.now token) e) }
     {
         let square = look.is_square();
         let heading = Heading { role, name, square };
@@ -55,8 +57,10 @@ impl State {
         requires within { token.to ≤ length text.now }
         requires shows { Shows look (symbol_of text.now token).sign }
         requires shaped { Shaped (Parameters heading phase ∷ self.old.goals) }
-        ensures ok { OnOk result (Takes (Parameters heading phase ∷ self.old.goals) self.old (symbol_of text.now token) self.new) }
-        ensures err { IfErr result (λ e. Stops (Parameters heading phase ∷ self.old.goals) self.old (symbol_of text.now token) e) }
+        ensures ok { OnOk result (Takes (Parameters heading phase ∷ self.old.goals) self.old
+            (symbol_of text.now token) self.new) }
+        ensures err { IfErr result (λ e. Stops (Parameters heading phase ∷ self.old.goals) self.old
+            (symbol_of text.now token) e) }
     {
         match next_place(self.alloc, heading.square, phase, look, text, token)? {
             Place::At(phase) => {
@@ -76,9 +80,11 @@ impl State {
         heading: Heading,
         parameters: WrittenParameters,
     ) -> Result<(), ParseFault>
-        ensures goals { OnOk result (self.new.goals ≡ role_goals heading.role (call_with heading parameters) self.old.goals) }
+        ensures goals { OnOk result (self.new.goals
+            ≡ role_goals heading.role (call_with heading parameters) self.old.goals) }
         ensures free { OnOk result (self.new.free ≡ false) }
-        ensures told { OnOk result (told self.new ≡ told self.old ++ role_told heading.role (call_with heading parameters)) }
+        ensures told { OnOk result (told self.new
+            ≡ told self.old ++ role_told heading.role (call_with heading parameters)) }
         ensures err { IfErr result (λ e. e ≡ NoMemory) }
     {
         let Heading { role, name, .. } = heading;

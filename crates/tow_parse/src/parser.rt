@@ -17,7 +17,8 @@ use tow_lex::Tokens;
 /// memory for the tree and for what is read on the way.
 pub fn parse(alloc: Global, text: &[u8], tokens: &Tokens) -> Result<Parsed, ParseFault>
     requires cut { Cuts text.now tokens.now }
-    ensures ok { IfOk result (λ p. (raw : RawList) × (n : fits.Counts) × Reads text.now raw × (fits.fit raw ≡ Ok (p.tree, n)) × (p.patterns ≡ n.patterns)) }
+    ensures ok { IfOk result (λ p. (raw : RawList) × (n : fits.Counts) × Reads text.now raw
+        × (fits.fit raw ≡ Ok (p.tree, n)) × (p.patterns ≡ n.patterns)) }
     ensures err { IfErr result (λ e. IfSome (parse_fault e) (λ f. IsFault text.now f.kind f.place)) }
 {
     let parts = read(alloc, text, tokens)?;

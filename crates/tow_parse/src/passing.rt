@@ -18,9 +18,11 @@ impl State {
     /// Takes the goals that are over before such a token, and the first that is not.
     pub fn next_goal(&mut self, look: Look) -> Result<Option<Goal>, ParseFault>
         requires shaped { Shaped self.old.goals }
-        ensures some { IfOk result (λ goal. IfSome goal (λ g. Passes self.old.goals self.old look (g ∷ self.new.goals) self.new)) }
+        ensures some { IfOk result (λ goal. IfSome goal
+            (λ g. Passes self.old.goals self.old look (g ∷ self.new.goals) self.new)) }
         ensures waits { IfOk result (λ goal. IfSome goal (λ g. Waits g look)) }
-        ensures none { IfOk result (λ goal. IfNone goal (Passes self.old.goals self.old look [] self.new)) }
+        ensures none { IfOk result (λ goal. IfNone goal
+            (Passes self.old.goals self.old look [] self.new)) }
         ensures err { IfErr result (λ e. e ≡ NoMemory) }
     {
         'passing: loop {
@@ -37,9 +39,11 @@ impl State {
     /// Passes over a goal that is over before such a token, or gives back what is not.
     fn pass(&mut self, goal: Goal, look: Look) -> Result<Option<Goal>, ParseFault>
         requires shaped { Shaped (goal ∷ self.old.goals) }
-        ensures some { IfOk result (λ next. IfSome next (λ g. Passes (goal ∷ self.old.goals) self.old look (g ∷ self.new.goals) self.new)) }
+        ensures some { IfOk result (λ next. IfSome next
+            (λ g. Passes (goal ∷ self.old.goals) self.old look (g ∷ self.new.goals) self.new)) }
         ensures waits { IfOk result (λ next. IfSome next (λ g. Waits g look)) }
-        ensures none { IfOk result (λ next. IfNone next (Passes (goal ∷ self.old.goals) self.old look self.new.goals self.new)) }
+        ensures none { IfOk result (λ next. IfNone next
+            (Passes (goal ∷ self.old.goals) self.old look self.new.goals self.new)) }
         ensures shorter { IfOk result (λ next. IfNone next (self.new.goals ≡ self.old.goals)) }
         ensures err { IfErr result (λ e. e ≡ NoMemory) }
     {
@@ -75,9 +79,12 @@ impl State {
     ) -> Result<Option<Goal>, ParseFault>
         requires over { opens look ≡ false }
         requires shaped { Shaped (Named role name ∷ self.old.goals) }
-        ensures some { IfOk result (λ next. IfSome next (λ g. Passes (Named role name ∷ self.old.goals) self.old look (g ∷ self.new.goals) self.new)) }
+        ensures some { IfOk result (λ next. IfSome next
+            (λ g. Passes (Named role name ∷ self.old.goals) self.old look (g ∷ self.new.goals)
+            self.new)) }
         ensures waits { IfOk result (λ next. IfSome next (λ g. Waits g look)) }
-        ensures none { IfOk result (λ next. IfNone next (Passes (Named role name ∷ self.old.goals) self.old look self.new.goals self.new)) }
+        ensures none { IfOk result (λ next. IfNone next
+            (Passes (Named role name ∷ self.old.goals) self.old look self.new.goals self.new)) }
         ensures shorter { IfOk result (λ next. IfNone next (self.new.goals ≡ self.old.goals)) }
         ensures err { IfErr result (λ e. e ≡ NoMemory) }
     {
@@ -111,9 +118,12 @@ impl State {
         look: Look,
     ) -> Result<Option<Goal>, ParseFault>
         requires shaped { Shaped (Called levels call ∷ self.old.goals) }
-        ensures some { IfOk result (λ next. IfSome next (λ g. Passes (Called levels call ∷ self.old.goals) self.old look (g ∷ self.new.goals) self.new)) }
+        ensures some { IfOk result (λ next. IfSome next
+            (λ g. Passes (Called levels call ∷ self.old.goals) self.old look (g ∷ self.new.goals)
+            self.new)) }
         ensures waits { IfOk result (λ next. IfSome next (λ g. Waits g look)) }
-        ensures none { IfOk result (λ next. IfNone next (Passes (Called levels call ∷ self.old.goals) self.old look self.new.goals self.new)) }
+        ensures none { IfOk result (λ next. IfNone next
+            (Passes (Called levels call ∷ self.old.goals) self.old look self.new.goals self.new)) }
         ensures shorter { IfOk result (λ next. IfNone next (self.new.goals ≡ self.old.goals)) }
         ensures err { IfErr result (λ e. e ≡ NoMemory) }
     {

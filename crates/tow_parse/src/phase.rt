@@ -88,8 +88,10 @@ fn at_word(
     requires order { token.from ≤ token.to }
     requires within { token.to ≤ length text.now }
     requires shows { Shows look (symbol_of text.now token).sign }
-    ensures ok { IfOk result (λ p. PhaseTakes square (phases.Word word) (symbol_of text.now token) p) }
-    ensures err { IfErr result (λ e. PhaseStops square (phases.Word word) (symbol_of text.now token) e) }
+    ensures ok { IfOk result (λ p. PhaseTakes square (phases.Word word) (symbol_of text.now token)
+        p) }
+    ensures err { IfErr result (λ e. PhaseStops square (phases.Word word) (symbol_of text.now token)
+        e) }
 {
     match look {
         Look::Equals => Ok(Place::At(Phase::Value(Slot::Named {
@@ -122,8 +124,10 @@ fn at_value(
     requires order { token.from ≤ token.to }
     requires within { token.to ≤ length text.now }
     requires shows { Shows look (symbol_of text.now token).sign }
-    ensures ok { IfOk result (λ p. PhaseTakes square (phases.Value slot) (symbol_of text.now token) p) }
-    ensures err { IfErr result (λ e. PhaseStops square (phases.Value slot) (symbol_of text.now token) e) }
+    ensures ok { IfOk result (λ p. PhaseTakes square (phases.Value slot) (symbol_of text.now token)
+        p) }
+    ensures err { IfErr result (λ e. PhaseStops square (phases.Value slot)
+        (symbol_of text.now token) e) }
 {
     match look {
         Look::OpenBrace => Ok(Place::At(Phase::Texts(Array {
@@ -156,8 +160,10 @@ fn at_name(
     requires order { token.from ≤ token.to }
     requires within { token.to ≤ length text.now }
     requires shows { Shows look (symbol_of text.now token).sign }
-    ensures ok { IfOk result (λ p. PhaseTakes square (phases.Name pairs) (symbol_of text.now token) p) }
-    ensures err { IfErr result (λ e. PhaseStops square (phases.Name pairs) (symbol_of text.now token) e) }
+    ensures ok { IfOk result (λ p. PhaseTakes square (phases.Name pairs) (symbol_of text.now token)
+        p) }
+    ensures err { IfErr result (λ e. PhaseStops square (phases.Name pairs)
+        (symbol_of text.now token) e) }
 {
     match word_at(alloc, text, token)? {
         Some(name) => Ok(Place::At(Phase::Equals { pairs, name })),
@@ -177,8 +183,10 @@ fn at_equals(
     requires order { token.from ≤ token.to }
     requires within { token.to ≤ length text.now }
     requires shows { Shows look (symbol_of text.now token).sign }
-    ensures ok { IfOk result (λ p. PhaseTakes square (phases.Equals pairs name) (symbol_of text.now token) p) }
-    ensures err { IfErr result (λ e. PhaseStops square (phases.Equals pairs name) (symbol_of text.now token) e) }
+    ensures ok { IfOk result (λ p. PhaseTakes square (phases.Equals pairs name)
+        (symbol_of text.now token) p) }
+    ensures err { IfErr result (λ e. PhaseStops square (phases.Equals pairs name)
+        (symbol_of text.now token) e) }
 {
     match look {
         Look::Equals => Ok(Place::At(Phase::Value(Slot::Named { pairs, name }))),
@@ -197,8 +205,10 @@ fn at_after(
     requires order { token.from ≤ token.to }
     requires within { token.to ≤ length text.now }
     requires shows { Shows look (symbol_of text.now token).sign }
-    ensures ok { IfOk result (λ p. PhaseTakes square (phases.After parameters) (symbol_of text.now token) p) }
-    ensures err { IfErr result (λ e. PhaseStops square (phases.After parameters) (symbol_of text.now token) e) }
+    ensures ok { IfOk result (λ p. PhaseTakes square (phases.After parameters)
+        (symbol_of text.now token) p) }
+    ensures err { IfErr result (λ e. PhaseStops square (phases.After parameters)
+        (symbol_of text.now token) e) }
 {
     if look.shuts(square) {
         return Ok(Place::Over(parameters));
@@ -226,8 +236,10 @@ fn at_texts(
     requires order { token.from ≤ token.to }
     requires within { token.to ≤ length text.now }
     requires shows { Shows look (symbol_of text.now token).sign }
-    ensures ok { IfOk result (λ p. PhaseTakes square (phases.Texts array) (symbol_of text.now token) p) }
-    ensures err { IfErr result (λ e. PhaseStops square (phases.Texts array) (symbol_of text.now token) e) }
+    ensures ok { IfOk result (λ p. PhaseTakes square (phases.Texts array) (symbol_of text.now token)
+        p) }
+    ensures err { IfErr result (λ e. PhaseStops square (phases.Texts array)
+        (symbol_of text.now token) e) }
 {
     match look {
         Look::CloseBrace => Ok(Place::At(Phase::After(array_filled(array)?))),
@@ -247,8 +259,10 @@ fn at_text(
     requires order { token.from ≤ token.to }
     requires within { token.to ≤ length text.now }
     requires shows { Shows look (symbol_of text.now token).sign }
-    ensures ok { IfOk result (λ p. PhaseTakes square (phases.Text array) (symbol_of text.now token) p) }
-    ensures err { IfErr result (λ e. PhaseStops square (phases.Text array) (symbol_of text.now token) e) }
+    ensures ok { IfOk result (λ p. PhaseTakes square (phases.Text array) (symbol_of text.now token)
+        p) }
+    ensures err { IfErr result (λ e. PhaseStops square (phases.Text array)
+        (symbol_of text.now token) e) }
 {
     match word_at(alloc, text, token)? {
         Some(word) => Ok(Place::At(Phase::AfterText(grown(array, word)?))),
@@ -270,8 +284,10 @@ fn at_after_text(
     requires order { token.from ≤ token.to }
     requires within { token.to ≤ length text.now }
     requires shows { Shows look (symbol_of text.now token).sign }
-    ensures ok { IfOk result (λ p. PhaseTakes square (phases.AfterText array) (symbol_of text.now token) p) }
-    ensures err { IfErr result (λ e. PhaseStops square (phases.AfterText array) (symbol_of text.now token) e) }
+    ensures ok { IfOk result (λ p. PhaseTakes square (phases.AfterText array)
+        (symbol_of text.now token) p) }
+    ensures err { IfErr result (λ e. PhaseStops square (phases.AfterText array)
+        (symbol_of text.now token) e) }
 {
     match look {
         Look::Comma => Ok(Place::At(Phase::Text(array))),

@@ -28,8 +28,10 @@ impl State {
         requires within { token.to ≤ length text.now }
         requires shows { Shows look (symbol_of text.now token).sign }
         requires shaped { Shaped (Factor levels ∷ self.old.goals) }
-        ensures ok { OnOk result (Takes (Factor levels ∷ self.old.goals) self.old (symbol_of text.now token) self.new) }
-        ensures err { IfErr result (λ e. Stops (Factor levels ∷ self.old.goals) self.old (symbol_of text.now token) e) }
+        ensures ok { OnOk result (Takes (Factor levels ∷ self.old.goals) self.old
+            (symbol_of text.now token) self.new) }
+        ensures err { IfErr result (λ e. Stops (Factor levels ∷ self.old.goals) self.old
+            (symbol_of text.now token) e) }
     {
         match look {
             Look::Not if levels == 0 => Err(ParseFault::TooDeep(token.from)),
@@ -72,8 +74,10 @@ impl State {
     ) -> Result<(), ParseFault>
         requires shows { Shows look (symbol_of text.now token).sign }
         requires shaped { Shaped (Joined levels pending grouped ∷ self.old.goals) }
-        ensures ok { OnOk result (Takes (Joined levels pending grouped ∷ self.old.goals) self.old (symbol_of text.now token) self.new) }
-        ensures err { IfErr result (λ e. Stops (Joined levels pending grouped ∷ self.old.goals) self.old (symbol_of text.now token) e) }
+        ensures ok { OnOk result (Takes (Joined levels pending grouped ∷ self.old.goals) self.old
+            (symbol_of text.now token) self.new) }
+        ensures err { IfErr result (λ e. Stops (Joined levels pending grouped ∷ self.old.goals)
+            self.old (symbol_of text.now token) e) }
     {
         if look.ends(grouped) {
             self.tell_pending(pending)?;

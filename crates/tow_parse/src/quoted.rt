@@ -15,9 +15,11 @@ pub fn quoted_at(
 ) -> Result<Option<WrittenText>, AllocError>
     requires order { token.from ≤ token.to }
     requires within { token.to ≤ length text.now }
-    ensures sign { IfOk result (λ o. IfSome o (λ w. (symbol_of text.now token).sign ≡ quoted w.bytes)) }
+    ensures sign { IfOk result (λ o. IfSome o (λ w. (symbol_of text.now token).sign
+        ≡ quoted w.bytes)) }
     ensures place { IfOk result (λ o. IfSome o (λ w. (symbol_of text.now token).place ≡ w.place)) }
-    ensures none { IfOk result (λ o. IfNone o ((bytes : List ℕ) → (symbol_of text.now token).sign ≡ quoted bytes → ⊥)) }
+    ensures none { IfOk result (λ o. IfNone o ((bytes : List ℕ)
+        → (symbol_of text.now token).sign ≡ quoted bytes → ⊥)) }
 {
     match token.kind {
         TokenKind::Quoted => {
@@ -33,7 +35,8 @@ pub fn quoted_at(
 
 /// The bytes for which a Quoted stands: those between its quotes, without each backslash before a quote. Takes memory.
 fn meant(alloc: Global, spelled: &[u8]) -> Result<Vec<u8>, AllocError>
-    ensures { IfOk result (λ bytes. bytes.items ≡ unescaped (slice_index spelled.now 0) (inner spelled.now)) }
+    ensures { IfOk result (λ bytes. bytes.items
+        ≡ unescaped (slice_index spelled.now 0) (inner spelled.now)) }
 {
     let mut bytes = Vec::new(alloc);
     if spelled.len() < 2 {
@@ -53,7 +56,8 @@ fn meant(alloc: Global, spelled: &[u8]) -> Result<Vec<u8>, AllocError>
 fn escapes(spelled: &[u8], at: usize, end: usize, quote: u8) -> bool
     requires before { at < end }
     requires within { end ≤ length spelled.now }
-    ensures { result ≡ slice_index spelled.now at == 92 && next_is quote (slice_range spelled.now (at + 1) end) }
+    ensures { result
+        ≡ slice_index spelled.now at == 92 && next_is quote (slice_range spelled.now (at + 1) end) }
 {
     if spelled[at] != b'\\' {
         return false;

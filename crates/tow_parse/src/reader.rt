@@ -16,8 +16,11 @@ use tow_lex::Tokens;
 /// memory for the parts and the texts in them.
 pub fn read(alloc: Global, text: &[u8], tokens: &Tokens) -> Result<Vec<Part>, ParseFault>
     requires cut { Cuts text.now tokens.now }
-    ensures ok { IfOk result (λ parts. (raw : RawList) × IsList 32 (symbols_of text.now tokens.now) raw × (parts_of raw ≡ map raw_part parts.items)) }
-    ensures err { IfErr result (λ e. IfSome (parse_fault e) (λ f. IsSyntaxFault text.now f.kind f.place)) }
+    ensures ok { IfOk result (λ parts. (raw : RawList)
+        × IsList 32 (symbols_of text.now tokens.now) raw
+        × (parts_of raw ≡ map raw_part parts.items)) }
+    ensures err { IfErr result (λ e. IfSome (parse_fault e)
+        (λ f. IsSyntaxFault text.now f.kind f.place)) }
 {
     let mut reader = Reader::new(alloc)?;
     let tokens = tokens.as_slice();

@@ -27,8 +27,10 @@ impl State {
         requires within { token.to ≤ length text.now }
         requires shows { Shows look (symbol_of text.now token).sign }
         requires shaped { Shaped (Statements levels nested ∷ self.old.goals) }
-        ensures ok { OnOk result (Takes (Statements levels nested ∷ self.old.goals) self.old (symbol_of text.now token) self.new) }
-        ensures err { IfErr result (λ e. Stops (Statements levels nested ∷ self.old.goals) self.old (symbol_of text.now token) e) }
+        ensures ok { OnOk result (Takes (Statements levels nested ∷ self.old.goals) self.old
+            (symbol_of text.now token) self.new) }
+        ensures err { IfErr result (λ e. Stops (Statements levels nested ∷ self.old.goals) self.old
+            (symbol_of text.now token) e) }
     {
         match look {
             Look::Newline | Look::Semi => {
@@ -68,8 +70,10 @@ impl State {
         requires within { token.to ≤ length text.now }
         requires shows { Shows look (symbol_of text.now token).sign }
         requires shaped { Shaped (Statement levels arrow ∷ self.old.goals) }
-        ensures ok { OnOk result (Takes (Statement levels arrow ∷ self.old.goals) self.old (symbol_of text.now token) self.new) }
-        ensures err { IfErr result (λ e. Stops (Statement levels arrow ∷ self.old.goals) self.old (symbol_of text.now token) e) }
+        ensures ok { OnOk result (Takes (Statement levels arrow ∷ self.old.goals) self.old
+            (symbol_of text.now token) self.new) }
+        ensures err { IfErr result (λ e. Stops (Statement levels arrow ∷ self.old.goals) self.old
+            (symbol_of text.now token) e) }
     {
         match look {
             Look::Arrow => {
@@ -119,8 +123,10 @@ impl State {
         requires within { token.to ≤ length text.now }
         requires shows { Shows look (symbol_of text.now token).sign }
         requires shaped { Shaped (Target levels ∷ self.old.goals) }
-        ensures ok { OnOk result (Takes (Target levels ∷ self.old.goals) self.old (symbol_of text.now token) self.new) }
-        ensures err { IfErr result (λ e. Stops (Target levels ∷ self.old.goals) self.old (symbol_of text.now token) e) }
+        ensures ok { OnOk result (Takes (Target levels ∷ self.old.goals) self.old
+            (symbol_of text.now token) self.new) }
+        ensures err { IfErr result (λ e. Stops (Target levels ∷ self.old.goals) self.old
+            (symbol_of text.now token) e) }
     {
         match look {
             Look::Name => {
@@ -168,8 +174,10 @@ impl State {
         requires waits { waits_else look ≡ true }
         requires shows { Shows look (symbol_of text.now token).sign }
         requires shaped { Shaped (Else levels ∷ self.old.goals) }
-        ensures ok { OnOk result (Takes (Else levels ∷ self.old.goals) self.old (symbol_of text.now token) self.new) }
-        ensures err { IfErr result (λ e. Stops (Else levels ∷ self.old.goals) self.old (symbol_of text.now token) e) }
+        ensures ok { OnOk result (Takes (Else levels ∷ self.old.goals) self.old
+            (symbol_of text.now token) self.new) }
+        ensures err { IfErr result (λ e. Stops (Else levels ∷ self.old.goals) self.old
+            (symbol_of text.now token) e) }
     {
         match look {
             Look::Else => {

@@ -90,8 +90,10 @@ impl State {
         requires shows { Shows look (symbol_of text.now token).sign }
         requires waits { Waits goal look }
         requires shaped { Shaped (goal ∷ self.old.goals) }
-        ensures ok { OnOk result (Takes (goal ∷ self.old.goals) self.old (symbol_of text.now token) self.new) }
-        ensures err { IfErr result (λ e. Stops (goal ∷ self.old.goals) self.old (symbol_of text.now token) e) }
+        ensures ok { OnOk result (Takes (goal ∷ self.old.goals) self.old (symbol_of text.now token)
+            self.new) }
+        ensures err { IfErr result (λ e. Stops (goal ∷ self.old.goals) self.old
+            (symbol_of text.now token) e) }
     {
         match goal {
             Goal::Statements { levels, nested } => self.take_statements(

@@ -27,9 +27,11 @@ pub fn written_name(alloc: Global, text: &[u8], token: Token) -> Result<WrittenT
 pub fn word_at(alloc: Global, text: &[u8], token: Token) -> Result<Option<WrittenText>, AllocError>
     requires order { token.from ≤ token.to }
     requires within { token.to ≤ length text.now }
-    ensures sign { IfOk result (λ o. IfSome o (λ w. (symbol_of text.now token).sign ≡ word w.bytes)) }
+    ensures sign { IfOk result (λ o. IfSome o (λ w. (symbol_of text.now token).sign
+        ≡ word w.bytes)) }
     ensures place { IfOk result (λ o. IfSome o (λ w. (symbol_of text.now token).place ≡ w.place)) }
-    ensures none { IfOk result (λ o. IfNone o ((bytes : List ℕ) → (symbol_of text.now token).sign ≡ word bytes → ⊥)) }
+    ensures none { IfOk result (λ o. IfNone o ((bytes : List ℕ)
+        → (symbol_of text.now token).sign ≡ word bytes → ⊥)) }
 {
     match token.kind {
         TokenKind::Word => {

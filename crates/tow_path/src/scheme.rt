@@ -11,7 +11,8 @@ ghost use Rattle.tow_path.specs.Scheme as model;
 
 /// Whether the text begins with the part, in any case.
 fn begins_in_any_case(text: &[u8], part: &[u8]) -> bool
-    ensures value { result ≡ begins_with (str_to_ascii_lowercase part.now) (str_to_ascii_lowercase text.now) }
+    ensures value { result
+        ≡ begins_with (str_to_ascii_lowercase part.now) (str_to_ascii_lowercase text.now) }
     ensures fits { IsTrue result → length part.now ≤ length text.now }
 {
     if text.len() < part.len() {
@@ -59,7 +60,8 @@ fn behind_scheme<'a>(target: &'a [u8], scheme: &[u8]) -> Option<&'a [u8]>
 
 /// The path and the query of an absolute-form.
 pub(crate) fn absolute_part(target: &[u8]) -> Option<&[u8]>
-    ensures { MatchOption result (absolute_place target.now ≡ None) (λ text. absolute_place target.now ≡ Some (place_at text.now)) }
+    ensures { MatchOption result (absolute_place target.now
+        ≡ None) (λ text. absolute_place target.now ≡ Some (place_at text.now)) }
 {
     match behind_scheme(target, b"http://") {
         Some(text) => Some(text),

@@ -56,7 +56,9 @@ fn query_of(alloc: Global, text: &[u8]) -> Result<Option<Bytes>, NoMemory>
 
 /// The url at the front of the text, which is `/` where nothing stands there.
 fn url_of(text: &[u8]) -> &[u8]
-    ensures { result.now ≡ (if is_empty (texts.before (byte "?") text.now) then codes "/" else texts.before (byte "?") text.now) }
+    ensures { result.now
+        ≡ (if is_empty (texts.before (byte "?") text.now) then codes "/" else texts.before
+        (byte "?") text.now) }
 {
     let url = before(b'?', text);
     if url.is_empty() { b"/" } else { url }
@@ -75,7 +77,8 @@ fn parts_of(alloc: Global, text: &[u8]) -> Result<Target3986, NoMemory>
 
 /// The parts of `*`.
 fn parts_of_server(alloc: Global) -> Result<Target3986, NoMemory>
-    ensures { IfOk result (λ parts. Names (record { url = codes "*"; path = codes "*"; query = None }) parts) }
+    ensures { IfOk result (λ parts. Names
+        (record { url = codes "*"; path = codes "*"; query = None }) parts) }
 {
     let url = Bytes::from_slice(alloc, b"*")?;
     let path = Bytes::from_slice(alloc, b"*")?;

@@ -24,9 +24,11 @@ fn build_one<M: Maker>(
 ) -> Result<Pattern, PatternFault>
     ensures pattern { IfOk result (λ p. p ≡ found.entry.pattern.now) }
     ensures good { IfOk result (λ _. IsGoodPattern found.entry.pattern.now) }
-    ensures refused { IfErr result (IsFaultOf found.entry.number found.entry.pattern.now (M.larges maker.old) (M.larges maker.new)) }
+    ensures refused { IfErr result (IsFaultOf found.entry.number found.entry.pattern.now
+        (M.larges maker.old) (M.larges maker.new)) }
     ensures later { (p : prelude.List ℕ) → M.larges maker.old p ≤ M.larges maker.new p }
-    ensures only { ((n : ℕ) → result ≢ Err (PatternFault.LargePattern n)) → M.larges maker.new ≡ M.larges maker.old }
+    ensures only { ((n : ℕ) → result ≢ Err (PatternFault.LargePattern n))
+        → M.larges maker.new ≡ M.larges maker.old }
     ensures stays { M.stays maker.old maker.new }
 {
     match maker.make(alloc, found.pattern) {
@@ -46,9 +48,11 @@ fn build_all<M: Maker>(
     requires numbered { AreNumbered (told found.now) }
     ensures patterns { IfOk result (λ ps. ps ≡ map (λ t. t.1) (told found.now)) }
     ensures good { IfOk result (λ ps. All IsGoodPattern ps) }
-    ensures refused { IfErr result (IsPatternFault (map (λ t. t.1) (told found.now)) (M.larges maker.old) (M.larges maker.new)) }
+    ensures refused { IfErr result (IsPatternFault (map (λ t. t.1) (told found.now))
+        (M.larges maker.old) (M.larges maker.new)) }
     ensures later { (p : prelude.List ℕ) → M.larges maker.old p ≤ M.larges maker.new p }
-    ensures only { ((n : ℕ) → result ≢ Err (PatternFault.LargePattern n)) → M.larges maker.new ≡ M.larges maker.old }
+    ensures only { ((n : ℕ) → result ≢ Err (PatternFault.LargePattern n))
+        → M.larges maker.new ≡ M.larges maker.old }
     ensures stays { M.stays maker.old maker.new }
 {
     let mut patterns = List::new(alloc);
@@ -67,9 +71,11 @@ pub fn build<M: Maker>(alloc: Global, tree: &Tree, maker: &mut M) -> Result<Test
     ensures tests { IfOk result (λ tests. tests ≡ map (λ t. t.1) (tree_patterns tree.now)) }
     ensures among { IfOk result (AreAmong (tree_patterns tree.now)) }
     ensures good { IfOk result (λ tests. All IsGoodPattern tests) }
-    ensures refused { IfErr result (IsPatternFault (map (λ t. t.1) (tree_patterns tree.now)) (M.larges maker.old) (M.larges maker.new)) }
+    ensures refused { IfErr result (IsPatternFault (map (λ t. t.1) (tree_patterns tree.now))
+        (M.larges maker.old) (M.larges maker.new)) }
     ensures later { (p : prelude.List ℕ) → M.larges maker.old p ≤ M.larges maker.new p }
-    ensures only { ((n : ℕ) → result ≢ Err (PatternFault.LargePattern n)) → M.larges maker.new ≡ M.larges maker.old }
+    ensures only { ((n : ℕ) → result ≢ Err (PatternFault.LargePattern n))
+        → M.larges maker.new ≡ M.larges maker.old }
     ensures stays { M.stays maker.old maker.new }
 {
     let mut found = Vec::new(alloc);

@@ -31,7 +31,8 @@ pub(crate) fn passes(
     requires dated { moment < first_undated }
     requires among { AreAmong (pattern_of test.now) scratch.old }
     ensures holds { IfOk result (λ b.
-        held (test_of test.now request.now state.old moment) state.old ≡ record { holds = b; state = state.new }) }
+        held (test_of test.now request.now state.old moment) state.old
+        ≡ record { holds = b; state = state.new }) }
     ensures scratch { scratch.new ≡ scratch.old }
     ensures rest { state.new ≡ record state.old { context = state.new.context } }
     ensures plain { IsTrue (is_plain_test test.now) → IsTrue (is_ok result) }
@@ -69,7 +70,8 @@ fn bind_found(
     state: &mut Record,
     bindings: Option<List<Field>>,
 ) -> Result<bool, NoMemory>
-    ensures holds { IfOk result (λ b. held bindings state.old ≡ record { holds = b; state = state.new }) }
+    ensures holds { IfOk result (λ b. held bindings state.old
+        ≡ record { holds = b; state = state.new }) }
     ensures rest { state.new ≡ record state.old { context = state.new.context } }
 {
     match bindings {
@@ -84,7 +86,8 @@ fn bind_found(
 /// Binds what the longest of the prefixes leaves of the path, if it lies under one. Takes memory for the binding.
 fn bind_remaining(alloc: Global, prefixes: &[Bytes], state: &mut Record) -> Result<bool, NoMemory>
     ensures holds { IfOk result (λ b.
-        held (prefix_bindings prefixes.now state.old.path) state.old ≡ record { holds = b; state = state.new }) }
+        held (prefix_bindings prefixes.now state.old.path) state.old
+        ≡ record { holds = b; state = state.new }) }
     ensures rest { state.new ≡ record state.old { context = state.new.context } }
 {
     match longest_prefix(prefixes, state.path.as_slice()) {

@@ -38,7 +38,8 @@ fn find_in_predicate<'t>(
     found: &mut Vec<Found<'t>>,
     predicate: &'t Predicate,
 ) -> Result<(), AllocError>
-    ensures { OnOk result (told found.new.items ≡ told found.old.items ++ patterns_in predicate.now) }
+    ensures { OnOk result (told found.new.items
+        ≡ told found.old.items ++ patterns_in predicate.now) }
 {
     match predicate {
         Predicate::Is(test) => find_in_test(found, test),
@@ -56,7 +57,8 @@ fn find_in_statement<'t>(
     found: &mut Vec<Found<'t>>,
     statement: &'t Statement,
 ) -> Result<(), AllocError>
-    ensures { OnOk result (told found.new.items ≡ told found.old.items ++ statement_patterns statement.now) }
+    ensures { OnOk result (told found.new.items
+        ≡ told found.old.items ++ statement_patterns statement.now) }
 {
     match statement {
         Statement::When { test, yes, other } => {
@@ -78,7 +80,8 @@ pub(crate) fn find_in_tree<'t>(
     found: &mut Vec<Found<'t>>,
     statements: &'t [Statement],
 ) -> Result<(), AllocError>
-    ensures { OnOk result (told found.new.items ≡ told found.old.items ++ tree_patterns statements.now) }
+    ensures { OnOk result (told found.new.items
+        ≡ told found.old.items ++ tree_patterns statements.now) }
 {
     for statement in statements {
         find_in_statement(found, statement)?;

@@ -20,7 +20,9 @@ pub(crate) fn ends_with_one(path: &[u8], suffixes: &[Bytes]) -> bool
 
 /// The length of the longest prefix that the path lies under, in bytes. Takes no memory.
 pub(crate) fn longest_prefix(prefixes: &[Bytes], path: &[u8]) -> Option<usize>
-    ensures longest { result ≡ option_map (λ p. length p) (longest (filter (λ p. paths.is_prefix p path.now) prefixes.now)) }
+    ensures longest { result
+        ≡ option_map (λ p. length p) (longest
+        (filter (λ p. paths.is_prefix p path.now) prefixes.now)) }
     ensures within { IfSome result (λ len. len ≤ length path.now) }
 {
     let mut best: Option<usize> = None;

@@ -26,7 +26,8 @@ pub fn holds(
 ) -> Result<bool, NoMemory>
     requires dated { moment < first_undated }
     requires among { AreAmong (patterns_in predicate.now) scratch.old }
-    ensures holds { IfOk result (λ b. holds_of predicate.now request.now state.old moment ≡ record { holds = b; state = state.new }) }
+    ensures holds { IfOk result (λ b. holds_of predicate.now request.now state.old moment
+        ≡ record { holds = b; state = state.new }) }
     ensures scratch { scratch.new ≡ scratch.old }
     ensures rest { state.new ≡ record state.old { context = state.new.context } }
     ensures listeners { state.new.listeners ≡ state.old.listeners }

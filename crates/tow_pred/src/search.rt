@@ -33,7 +33,8 @@ impl<'t> Model for Search<'t> {
 
     ghost view = { λ s. regex_source s.regex.now };
 
-    ghost invariant = { λ s. IsBuilt s.regex.now × (matcher_pattern s.matcher ≡ regex_pattern s.regex.now)
+    ghost invariant = { λ s. IsBuilt s.regex.now
+        × (matcher_pattern s.matcher ≡ regex_pattern s.regex.now)
         × (location_count s.locations ≡ group_count s.regex.now) };
 }
 
@@ -58,7 +59,8 @@ impl<'t> Search<'t> {
         alloc: Global,
         value: &[u8],
     ) -> Result<Option<List<Field>>, AllocError>
-        ensures bindings { IfOk result (λ bindings. bindings ≡ pattern_bindings self.old value.now) }
+        ensures bindings { IfOk result (λ bindings. bindings
+            ≡ pattern_bindings self.old value.now) }
         ensures same { self.new ≡ self.old }
     {
         match self.matcher.captures_read(&mut self.locations, value) {

@@ -21,7 +21,8 @@ pub(crate) fn bind_parts(
 ) -> Result<Option<List<Field>>, NoMemory>
     requires dated { moment < first_undated }
     ensures { IfOk result (λ bindings.
-        bindings ≡ template_bindings parts.now (value_of template.now request.now state.now moment)) }
+        bindings
+        ≡ template_bindings parts.now (value_of template.now request.now state.now moment)) }
 {
     let text = value(alloc, template, request, state, moment)?;
     match template_bind(alloc, parts, text.as_slice()) {

@@ -22,7 +22,8 @@ pub(crate) fn are_equal(
     moment: u64,
 ) -> Result<bool, NoMemory>
     requires dated { moment < first_undated }
-    ensures { IfOk result (λ equal. equal ≡ all_same (map (λ v. value_of v request.now state.now moment) templates.now)) }
+    ensures { IfOk result (λ equal. equal
+        ≡ all_same (map (λ v. value_of v request.now state.now moment) templates.now)) }
 {
     let Some((first, others)) = templates.split_first() else {
         return Ok(true);
@@ -42,7 +43,8 @@ fn have_value(
 ) -> Result<bool, NoMemory>
     requires dated { moment < first_undated }
     ensures { IfOk result (λ equal. equal
-        ≡ list_all (bytes_eq wanted.now) (map (λ v. value_of v request.now state.now moment) templates.now)) }
+        ≡ list_all (bytes_eq wanted.now)
+        (map (λ v. value_of v request.now state.now moment) templates.now)) }
 {
     for template in templates {
         let found = value(alloc, template, request, state, moment)?;
@@ -77,7 +79,9 @@ pub(crate) fn contains_one(
     moment: u64,
 ) -> Result<bool, NoMemory>
     requires dated { moment < first_undated }
-    ensures { IfOk result (λ found. found ≡ list_any (λ s. contains s (value_of template.now request.now state.now moment)) search.now) }
+    ensures { IfOk result (λ found. found
+        ≡ list_any (λ s. contains s (value_of template.now request.now state.now moment))
+        search.now) }
 {
     let text = value(alloc, template, request, state, moment)?;
     Ok(has_part_of(text.as_slice(), search))
@@ -92,7 +96,8 @@ pub(crate) fn exists(
     moment: u64,
 ) -> Result<bool, NoMemory>
     requires dated { moment < first_undated }
-    ensures { IfOk result (λ found. found ≡ not (is_empty (value_of template.now request.now state.now moment))) }
+    ensures { IfOk result (λ found. found
+        ≡ not (is_empty (value_of template.now request.now state.now moment))) }
 {
     let text = value(alloc, template, request, state, moment)?;
     Ok(is_filled(text.as_slice()))

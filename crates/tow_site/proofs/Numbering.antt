@@ -1,14 +1,12 @@
 -- The fit numbers the patterns of a tree in the order of the text, and keeps the place of each.
-use Rattle.std.proofs.Common.{◌≡◌, ℕ, zero, suc, ◌+◌, List, [], ◌∷◌, ◌++◌, length, map, flat_map, Bool, true, false, None, Some, Ok, Err, refl, sym, ◌∙◌, ap, ap₂, subst, arith, length-append}
-use Rattle.std.proofs.lemmas.List.{append-nil, map-append}
+use Rattle.std.proofs.Common.{◌≡◌, ℕ, zero, suc, ◌+◌, List, [], ◌∷◌, ◌++◌, length, map, Bool, true, false, Ok, Err, refl, sym, ◌∙◌, ap, ap₂, subst, arith, length-append}
+use Rattle.std.proofs.lemmas.List.{map-append}
 use Rattle.std.specs.Prelude.{Result, if◌then◌else◌, ◌&&◌, nat_le}
 use Rattle.std.specs.List.{range_with_len}
 use Rattle.tow_model.specs.declared.action.Action.{Action}
 use Rattle.tow_language.specs.declared.kind.Kind.TheVariants.{TooManyLimits, UnknownName}
-use Rattle.tow_model.specs.declared.predicate.Test.{Test}
-use Rattle.tow_model.specs.declared.predicate.Predicate.{Predicate, fold-roll-Predicate}
+use Rattle.tow_model.specs.declared.predicate.Predicate.{Predicate}
 use Rattle.tow_model.specs.declared.predicate.Predicate.TheVariants as p
-use Rattle.tow_model.specs.declared.predicate.Predicate.TheOpen as pf
 use Rattle.tow_model.specs.declared.statement.Statement.{Statement, fold-roll-Statement}
 use Rattle.tow_model.specs.declared.statement.Statement.TheVariants as st
 use Rattle.tow_model.specs.declared.statement.Statement.TheOpen as sf
@@ -19,7 +17,7 @@ use Rattle.tow_language.specs.declared.table.Handler.TheVariants as handlers
 use Rattle.tow_language.specs.declared.table.TestName.{TestName}
 use Rattle.tow_language.specs.declared.table.TestName.TheVariants as names
 use Rattle.tow_language.specs.Fit.{Counts, Fitted, TextFault, ◌>>=◌, wanted, fault, givens_of, is_limit, made_test, made_action, fit_test, fit_action, fit_predicate, fit_or, fit_conjunction, fit_and, fit_factor, fit_target, fit_statement, fit_list, fit, no_counts}
-use Rattle.tow_semantics.specs.Predicates.{pattern_of, patterns_by, patterns_in}
+use Rattle.tow_semantics.specs.Predicates.{pattern_of, patterns_in}
 use Rattle.tow_language.specs.Raw.{RawCall, RawPredicate, alone, or_more, RawConjunction, single, and_more, RawFactor, test, negated, grouped, RawTarget, handler, restart, done, block, RawStatement, act, when, when_else, RawList, none, more}
 use Rattle.tow_language.specs.Table.{test_named, test_parameters, handler_named, handler_parameters}
 use Rattle.tow_model.specs.Texts.{Text}

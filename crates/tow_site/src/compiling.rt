@@ -23,9 +23,11 @@ fn build_site<M: Maker>(
     requires short { length text.now ≤ 65536 }
     requires tree { HasTree text.now parsed.tree parsed.patterns }
     ensures ok { IfOk result (λ site. IsSiteOf text.now site) }
-    ensures fault { IfErr result (λ fault. IsFaultOfText text.now (M.larges maker.old) (M.larges maker.new) fault) }
+    ensures fault { IfErr result (λ fault. IsFaultOfText text.now (M.larges maker.old)
+        (M.larges maker.new) fault) }
     ensures later { (p : List ℕ) → M.larges maker.old p ≤ M.larges maker.new p }
-    ensures only { ((line column : ℕ) → result ≢ Err (Fault.Text kinds.LargePattern line column)) → M.larges maker.new ≡ M.larges maker.old }
+    ensures only { ((line column : ℕ) → result ≢ Err (Fault.Text kinds.LargePattern line column))
+        → M.larges maker.new ≡ M.larges maker.old }
     ensures stays { M.stays maker.old maker.new }
 {
     let Parsed { tree, patterns } = parsed;
@@ -42,9 +44,11 @@ fn build_site<M: Maker>(
 /// comes before one of a pattern. Takes memory for the tokens, the tree, the patterns and what is read on the way.
 pub fn compile<M: Maker>(alloc: Global, text: &[u8], maker: &mut M) -> Result<Site, Fault>
     ensures ok { IfOk result (λ site. IsSiteOf text.now site) }
-    ensures fault { IfErr result (λ fault. IsFaultOfText text.now (M.larges maker.old) (M.larges maker.new) fault) }
+    ensures fault { IfErr result (λ fault. IsFaultOfText text.now (M.larges maker.old)
+        (M.larges maker.new) fault) }
     ensures later { (p : List ℕ) → M.larges maker.old p ≤ M.larges maker.new p }
-    ensures only { ((line column : ℕ) → result ≢ Err (Fault.Text kinds.LargePattern line column)) → M.larges maker.new ≡ M.larges maker.old }
+    ensures only { ((line column : ℕ) → result ≢ Err (Fault.Text kinds.LargePattern line column))
+        → M.larges maker.new ≡ M.larges maker.old }
     ensures stays { M.stays maker.old maker.new }
 {
     let tokens = match tokens(alloc, text) {

@@ -74,7 +74,8 @@ fn walk_again(
     requires built { IsTrue (list_all is_built_statement statements.now) }
     requires among { AreAmong (tree_patterns statements.now) scratch.old }
     requires dated { moment < first_undated }
-    ensures leads { IfOk result (λ who. Leads request.now moment statements.now left state.old who state.new) }
+    ensures leads { IfOk result (λ who. Leads request.now moment statements.now left state.old who
+        state.new) }
     ensures empty { IfOk result (λ who. who ≡ Answerer.Text → state.new.choice ≡ Choice.Empty) }
     ensures scratch { scratch.new ≡ scratch.old }
 {

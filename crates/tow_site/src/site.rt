@@ -28,7 +28,8 @@ impl Model for Site {
 
     ghost view = { λ s. record { tree = s.tree; patterns = s.patterns } };
 
-    ghost invariant = { λ s. (s.statements ≡ length s.tree) × (s.tests ≡ pattern_texts s.tree) × IsNumbered s.tree };
+    ghost invariant = { λ s. (s.statements ≡ length s.tree) × (s.tests ≡ pattern_texts s.tree)
+        × IsNumbered s.tree };
 }
 
 impl Site {

@@ -40,7 +40,8 @@ pub(crate) fn walk_list(
     requires built { IsTrue (list_all is_built_statement statements.now) }
     requires among { AreAmong (tree_patterns statements.now) scratch.old }
     requires dated { moment < first_undated }
-    ensures walks { IfOk result (λ end. WalksAll request.now moment statements.now state.old end state.new) }
+    ensures walks { IfOk result (λ end. WalksAll request.now moment statements.now state.old end
+        state.new) }
     ensures empty { IfOk result (λ end. end ≡ Walked.Stopped → state.new.choice ≡ Choice.Empty) }
     ensures scratch { scratch.new ≡ scratch.old }
 {
@@ -65,7 +66,8 @@ fn walk_statement(
     requires built { IsTrue (is_built_statement statement.now) }
     requires among { AreAmong (statement_patterns statement.now) scratch.old }
     requires dated { moment < first_undated }
-    ensures walks { IfOk result (λ end. Walks request.now moment statement.now state.old end state.new) }
+    ensures walks { IfOk result (λ end. Walks request.now moment statement.now state.old end
+        state.new) }
     ensures empty { IfOk result (λ end. end ≡ Walked.Stopped → state.new.choice ≡ Choice.Empty) }
     ensures scratch { scratch.new ≡ scratch.old }
 {

@@ -21,7 +21,9 @@ pub(crate) fn made_action(
     counts: &mut Counts,
 ) -> Result<Action, ParseFault>
     requires { length (givens_list givens) ≡ length (table.handler_parameters handler) }
-    ensures ok { IfOk result (λ a. fits.made_action handler (givens_list givens) (counts_of counts.old) ≡ (a, counts_of counts.new)) }
+    ensures ok { IfOk result (λ a. fits.made_action handler (givens_list givens)
+        (counts_of counts.old)
+        ≡ (a, counts_of counts.new)) }
     ensures err { IfErr result (λ e. e ≡ ParseFault.NoMemory) }
 {
     match givens {
@@ -44,7 +46,8 @@ fn action_of_none(handler: Handler) -> Action
 
 fn action_of_one(handler: Handler, given: Given, counts: &mut Counts) -> Result<Action, ParseFault>
     requires { length (table.handler_parameters handler) ≡ 1 }
-    ensures ok { IfOk result (λ a. fits.made_action handler (given ∷ []) (counts_of counts.old) ≡ (a, counts_of counts.new)) }
+    ensures ok { IfOk result (λ a. fits.made_action handler (given ∷ []) (counts_of counts.old)
+        ≡ (a, counts_of counts.new)) }
     ensures err { IfErr result (λ e. e ≡ ParseFault.NoMemory) }
 {
     match handler {
@@ -72,7 +75,8 @@ fn action_of_two(handler: Handler, first: Given, second: Given) -> Action
 
 fn action_of_three(handler: Handler, first: Given, second: Given, third: Given) -> Action
     requires { length (table.handler_parameters handler) ≡ 3 }
-    ensures { (n : fits.Counts) → fits.made_action handler (first ∷ second ∷ third ∷ []) n ≡ (result, n) }
+    ensures { (n : fits.Counts)
+        → fits.made_action handler (first ∷ second ∷ third ∷ []) n ≡ (result, n) }
 {
     match handler {
         Handler::Header => header(first, second, third),
@@ -108,7 +112,9 @@ fn redirect(given: Given) -> Action
 }
 
 fn response_code(given: Given, counts: &Counts) -> Result<Action, ParseFault>
-    ensures ok { IfOk result (λ a. fits.made_action handlers.ResponseCode (given ∷ []) (counts_of counts.now) ≡ (a, counts_of counts.now)) }
+    ensures ok { IfOk result (λ a. fits.made_action handlers.ResponseCode (given ∷ [])
+        (counts_of counts.now)
+        ≡ (a, counts_of counts.now)) }
     ensures err { IfErr result (λ e. e ≡ ParseFault.NoMemory) }
 {
     match given {
@@ -121,7 +127,8 @@ fn response_code(given: Given, counts: &Counts) -> Result<Action, ParseFault>
 }
 
 fn allowed_methods(given: Given) -> Action
-    ensures { (n : fits.Counts) → fits.made_action handlers.AllowedMethods (given ∷ []) n ≡ (result, n) }
+    ensures { (n : fits.Counts)
+        → fits.made_action handlers.AllowedMethods (given ∷ []) n ≡ (result, n) }
 {
     match given {
         Given::Texts(methods) => Action::AllowedMethods(methods),
@@ -131,7 +138,9 @@ fn allowed_methods(given: Given) -> Action
 
 /// The limit is numbered from 0 on, in the order of the text.
 fn request_limit(given: Given, counts: &mut Counts) -> Result<Action, ParseFault>
-    ensures ok { IfOk result (λ a. fits.made_action handlers.RequestLimit (given ∷ []) (counts_of counts.old) ≡ (a, counts_of counts.new)) }
+    ensures ok { IfOk result (λ a. fits.made_action handlers.RequestLimit (given ∷ [])
+        (counts_of counts.old)
+        ≡ (a, counts_of counts.new)) }
     ensures err { IfErr result (λ e. e ≡ ParseFault.NoMemory) }
 {
     match given {
@@ -141,7 +150,9 @@ fn request_limit(given: Given, counts: &mut Counts) -> Result<Action, ParseFault
 }
 
 fn numbered_limit(most: u32, counts: &mut Counts) -> Result<Action, ParseFault>
-    ensures ok { IfOk result (λ a. fits.made_action handlers.RequestLimit (givens.Number most ∷ []) (counts_of counts.old) ≡ (a, counts_of counts.new)) }
+    ensures ok { IfOk result (λ a. fits.made_action handlers.RequestLimit (givens.Number most ∷ [])
+        (counts_of counts.old)
+        ≡ (a, counts_of counts.new)) }
     ensures err { IfErr result (λ e. e ≡ ParseFault.NoMemory) }
 {
     let number = counts.limits;
@@ -154,7 +165,9 @@ fn numbered_limit(most: u32, counts: &mut Counts) -> Result<Action, ParseFault>
 
 /// The log is numbered from 0 on, in the order of the text.
 fn access_log(given: Given, counts: &mut Counts) -> Result<Action, ParseFault>
-    ensures ok { IfOk result (λ a. fits.made_action handlers.AccessLog (given ∷ []) (counts_of counts.old) ≡ (a, counts_of counts.new)) }
+    ensures ok { IfOk result (λ a. fits.made_action handlers.AccessLog (given ∷ [])
+        (counts_of counts.old)
+        ≡ (a, counts_of counts.new)) }
     ensures err { IfErr result (λ e. e ≡ ParseFault.NoMemory) }
 {
     match given {
@@ -164,7 +177,9 @@ fn access_log(given: Given, counts: &mut Counts) -> Result<Action, ParseFault>
 }
 
 fn numbered_log(format: Template, counts: &mut Counts) -> Result<Action, ParseFault>
-    ensures ok { IfOk result (λ a. fits.made_action handlers.AccessLog (givens.Template format ∷ []) (counts_of counts.old) ≡ (a, counts_of counts.new)) }
+    ensures ok { IfOk result (λ a. fits.made_action handlers.AccessLog (givens.Template format ∷ [])
+        (counts_of counts.old)
+        ≡ (a, counts_of counts.new)) }
     ensures err { IfErr result (λ e. e ≡ ParseFault.NoMemory) }
 {
     let number = counts.logs;
@@ -176,7 +191,8 @@ fn numbered_log(format: Template, counts: &mut Counts) -> Result<Action, ParseFa
 }
 
 fn set(target: Given, value: Given) -> Action
-    ensures { (n : fits.Counts) → fits.made_action handlers.Set (target ∷ value ∷ []) n ≡ (result, n) }
+    ensures { (n : fits.Counts)
+        → fits.made_action handlers.Set (target ∷ value ∷ []) n ≡ (result, n) }
 {
     match target {
         Given::Target(target) => match value {
@@ -188,7 +204,8 @@ fn set(target: Given, value: Given) -> Action
 }
 
 fn resource(location: Given, listing: Given) -> Action
-    ensures { (n : fits.Counts) → fits.made_action handlers.Resource (location ∷ listing ∷ []) n ≡ (result, n) }
+    ensures { (n : fits.Counts)
+        → fits.made_action handlers.Resource (location ∷ listing ∷ []) n ≡ (result, n) }
 {
     match location {
         Given::Text(location) => match listing {
@@ -200,7 +217,8 @@ fn resource(location: Given, listing: Given) -> Action
 }
 
 fn header(name: Given, value: Given, replace: Given) -> Action
-    ensures { (n : fits.Counts) → fits.made_action handlers.Header (name ∷ value ∷ replace ∷ []) n ≡ (result, n) }
+    ensures { (n : fits.Counts)
+        → fits.made_action handlers.Header (name ∷ value ∷ replace ∷ []) n ≡ (result, n) }
 {
     match name {
         Given::Text(name) => match value {

@@ -61,7 +61,8 @@ fn filled(alloc: Global, rows: Rows, found: List<Found>, place: usize) -> Result
 }
 
 fn one(alloc: Global, a: Parameter, found: List<Found>, place: usize) -> Result<Givens, ParseFault>
-    ensures { MeetsBy givens_list result (fits.filled (parameter_as a ∷ []) (map found_as found) place) }
+    ensures { MeetsBy givens_list result
+        (fits.filled (parameter_as a ∷ []) (map found_as found) place) }
 {
     let mut found = found.into_vec();
     let first = taken(alloc, a, &mut found, place)?;
@@ -76,7 +77,8 @@ fn two(
     place: usize,
 ) -> Result<Givens, ParseFault>
     requires { are_apart (parameter_as a ∷ parameter_as b ∷ []) ≡ true }
-    ensures { MeetsBy givens_list result (fits.filled (parameter_as a ∷ parameter_as b ∷ []) (map found_as found) place) }
+    ensures { MeetsBy givens_list result
+        (fits.filled (parameter_as a ∷ parameter_as b ∷ []) (map found_as found) place) }
 {
     let mut found = found.into_vec();
     let first = taken(alloc, a, &mut found, place)?;
@@ -94,7 +96,8 @@ fn three(
 ) -> Result<Givens, ParseFault>
     requires { are_apart (parameter_as a ∷ parameter_as b ∷ parameter_as c ∷ []) ≡ true }
     ensures { MeetsBy givens_list result
-        (fits.filled (parameter_as a ∷ parameter_as b ∷ parameter_as c ∷ []) (map found_as found) place) }
+        (fits.filled (parameter_as a ∷ parameter_as b ∷ parameter_as c ∷ []) (map found_as found)
+        place) }
 {
     let mut found = found.into_vec();
     let first = taken(alloc, a, &mut found, place)?;
@@ -110,9 +113,11 @@ fn taken(
     found: &mut Vec<Found>,
     place: usize,
 ) -> Result<Given, ParseFault>
-    ensures value { Meets result (filled_one (parameter_as row) (map found_as found.old.items) place) }
+    ensures value { Meets result (filled_one (parameter_as row) (map found_as found.old.items)
+        place) }
     ensures others { (name : List ℕ) → bytes_eq name row.name.now ≡ false →
-        lookup (bytes_eq name) (map found_as found.new.items) ≡ lookup (bytes_eq name) (map found_as found.old.items) }
+        lookup (bytes_eq name) (map found_as found.new.items)
+        ≡ lookup (bytes_eq name) (map found_as found.old.items) }
 {
     match place_in(found.as_slice(), row.name) {
         Some(at) => {
@@ -126,9 +131,12 @@ fn taken(
 /// Where the parameter of this name stands among those that were found.
 fn place_in(found: &[Found], name: &[u8]) -> Option<usize>
     ensures within { IfSome result (λ at. at < length found.now) }
-    ensures named { (d : Found) → IfSome result (λ at. bytes_eq name.now (slice_index_or found.now at d).row.name.now ≡ true) }
+    ensures named { (d : Found)
+        → IfSome result (λ at. bytes_eq name.now (slice_index_or found.now at d).row.name.now
+        ≡ true) }
     ensures value { (d : Found) → IfSome result (λ at.
-        lookup (bytes_eq name.now) (map found_as found.now) ≡ Some (slice_index_or found.now at d).given) }
+        lookup (bytes_eq name.now) (map found_as found.now)
+        ≡ Some (slice_index_or found.now at d).given) }
     ensures none { IfNone result (lookup (bytes_eq name.now) (map found_as found.now) ≡ None) }
 {
     for (at, other) in found.iter().enumerate() {

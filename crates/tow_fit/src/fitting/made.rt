@@ -21,7 +21,8 @@ pub(crate) fn made_test(
     counts: &mut Counts,
 ) -> Result<Test, ParseFault>
     requires { length (givens_list givens) ≡ length (table.test_parameters test) }
-    ensures ok { IfOk result (λ t. fits.made_test test (givens_list givens) (counts_of counts.old) ≡ (t, counts_of counts.new)) }
+    ensures ok { IfOk result (λ t. fits.made_test test (givens_list givens) (counts_of counts.old)
+        ≡ (t, counts_of counts.new)) }
     ensures err { IfErr result (λ e. e ≡ ParseFault.NoMemory) }
 {
     match givens {
@@ -63,7 +64,8 @@ fn test_of_two(
     counts: &mut Counts,
 ) -> Result<Test, ParseFault>
     requires { length (table.test_parameters test) ≡ 2 }
-    ensures ok { IfOk result (λ t. fits.made_test test (first ∷ second ∷ []) (counts_of counts.old) ≡ (t, counts_of counts.new)) }
+    ensures ok { IfOk result (λ t. fits.made_test test (first ∷ second ∷ []) (counts_of counts.old)
+        ≡ (t, counts_of counts.new)) }
     ensures err { IfErr result (λ e. e ≡ ParseFault.NoMemory) }
 {
     match test {
@@ -129,7 +131,8 @@ fn exists(given: Given) -> Test
 }
 
 fn path_template(parts: Given, value: Given) -> Test
-    ensures { (n : fits.Counts) → fits.made_test tests.PathTemplate (parts ∷ value ∷ []) n ≡ (result, n) }
+    ensures { (n : fits.Counts)
+        → fits.made_test tests.PathTemplate (parts ∷ value ∷ []) n ≡ (result, n) }
 {
     match parts {
         Given::Segments(parts) => match value {
@@ -141,7 +144,9 @@ fn path_template(parts: Given, value: Given) -> Test
 }
 
 fn regex(pattern: Given, value: Given, counts: &mut Counts) -> Result<Test, ParseFault>
-    ensures ok { IfOk result (λ t. fits.made_test tests.Regex (pattern ∷ value ∷ []) (counts_of counts.old) ≡ (t, counts_of counts.new)) }
+    ensures ok { IfOk result (λ t. fits.made_test tests.Regex (pattern ∷ value ∷ [])
+        (counts_of counts.old)
+        ≡ (t, counts_of counts.new)) }
     ensures err { IfErr result (λ e. e ≡ ParseFault.NoMemory) }
 {
     match pattern {
@@ -160,7 +165,8 @@ fn numbered(
     value: Template,
     counts: &mut Counts,
 ) -> Result<Test, ParseFault>
-    ensures ok { IfOk result (λ t. fits.made_test tests.Regex (givens.Pattern pattern place ∷ givens.Template value ∷ []) (counts_of counts.old)
+    ensures ok { IfOk result (λ t. fits.made_test tests.Regex
+        (givens.Pattern pattern place ∷ givens.Template value ∷ []) (counts_of counts.old)
         ≡ (t, counts_of counts.new)) }
     ensures err { IfErr result (λ e. e ≡ ParseFault.NoMemory) }
 {
@@ -176,7 +182,8 @@ fn numbered(
 }
 
 fn contains(value: Given, search: Given) -> Test
-    ensures { (n : fits.Counts) → fits.made_test tests.Contains (value ∷ search ∷ []) n ≡ (result, n) }
+    ensures { (n : fits.Counts)
+        → fits.made_test tests.Contains (value ∷ search ∷ []) n ≡ (result, n) }
 {
     match value {
         Given::Template(value) => match search {

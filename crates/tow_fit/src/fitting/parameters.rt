@@ -58,7 +58,8 @@ fn next_found(
     found: &[Found],
     pair: WrittenPair,
 ) -> Result<Found, ParseFault>
-    ensures { MeetsBy found_as result (next_found (rows_of rows) (map found_as found.now) (pair_of pair)) }
+    ensures { MeetsBy found_as result
+        (next_found (rows_of rows) (map found_as found.now) (pair_of pair)) }
 {
     let WrittenPair { name, value } = pair;
     match unused(rows, found, name.bytes.as_slice()) {
@@ -72,7 +73,8 @@ fn next_found(
 
 /// The parameter of this name, unless it was found before.
 fn unused(rows: Rows, found: &[Found], name: &[u8]) -> Option<Parameter>
-    ensures { option_map parameter_as result ≡ fits.unused (rows_of rows) (map found_as found.now) name.now }
+    ensures { option_map parameter_as result
+        ≡ fits.unused (rows_of rows) (map found_as found.now) name.now }
 {
     if is_found(found, name) {
         None
@@ -89,7 +91,8 @@ fn is_found(found: &[Found], name: &[u8]) -> bool
 
 /// The first parameter of this name.
 fn row_named(rows: Rows, name: &[u8]) -> Option<Parameter>
-    ensures { option_map parameter_as result ≡ find (λ (q : table.Parameter). bytes_eq q.name name.now) (rows_of rows) }
+    ensures { option_map parameter_as result
+        ≡ find (λ (q : table.Parameter). bytes_eq q.name name.now) (rows_of rows) }
 {
     match rows {
         Rows::None => None,
@@ -110,7 +113,8 @@ fn row_named(rows: Rows, name: &[u8]) -> Option<Parameter>
 
 /// This parameter, if it has the name.
 fn if_named(row: Parameter, name: &[u8]) -> Option<Parameter>
-    ensures { option_map parameter_as result ≡ (if bytes_eq row.name.now name.now then Some (parameter_as row) else None) }
+    ensures { option_map parameter_as result
+        ≡ (if bytes_eq row.name.now name.now then Some (parameter_as row) else None) }
 {
     if is_name(row.name, name) {
         Some(row)

@@ -24,7 +24,8 @@ pub(crate) fn found_first(
     rows: Rows,
     values: List<WrittenValue>,
 ) -> Result<List<Found>, ParseFault>
-    ensures { MeetsBy (map found_as) result (found_in (rows_of rows) (unnamed (map value_of values))) }
+    ensures { MeetsBy (map found_as) result
+        (found_in (rows_of rows) (unnamed (map value_of values))) }
 {
     match first_row(rows) {
         Some(row) => found_at(alloc, row, values),

@@ -80,7 +80,8 @@ impl Builder {
 
     fn take_test(&mut self, alloc: Global, call: Call) -> Result<(), ParseFault>
         ensures ok { OnOk result (Takes (parts.a_test (call_of call)) self.old self.new) }
-        ensures err { IfErr result (λ e. FailsAt e (step (parts.a_test (call_of call)) (built_of self.old))) }
+        ensures err { IfErr result (λ e. FailsAt e
+            (step (parts.a_test (call_of call)) (built_of self.old))) }
     {
         let test = fitted_test(alloc, call, &mut self.counts)?;
         put(&mut self.predicates, Predicate::Is(test))?;
@@ -89,7 +90,8 @@ impl Builder {
 
     fn take_handler(&mut self, alloc: Global, call: Call) -> Result<(), ParseFault>
         ensures ok { OnOk result (Takes (parts.a_handler (call_of call)) self.old self.new) }
-        ensures err { IfErr result (λ e. FailsAt e (step (parts.a_handler (call_of call)) (built_of self.old))) }
+        ensures err { IfErr result (λ e. FailsAt e
+            (step (parts.a_handler (call_of call)) (built_of self.old))) }
     {
         let action = fitted_action(alloc, call, &mut self.counts)?;
         put(&mut self.targets, Statement::Act(action))?;

@@ -44,7 +44,8 @@ pub fn put_action(text: &mut Vec<u8>, action: &Action) -> Result<(), AllocError>
 }
 
 fn put_set(text: &mut Vec<u8>, target: &Target, value: &[Piece]) -> Result<(), AllocError>
-    ensures { OnOk result (text.new.items ≡ text.old.items ++ printed_action (actions.Set target.now value.now)) }
+    ensures { OnOk result (text.new.items
+        ≡ text.old.items ++ printed_action (actions.Set target.now value.now)) }
 {
     text.extend_from_slice(b"set(attribute=")?;
     put_target(text, target)?;
@@ -53,7 +54,8 @@ fn put_set(text: &mut Vec<u8>, target: &Target, value: &[Piece]) -> Result<(), A
 }
 
 fn put_clear(text: &mut Vec<u8>, target: &Target) -> Result<(), AllocError>
-    ensures { OnOk result (text.new.items ≡ text.old.items ++ printed_action (actions.Clear target.now)) }
+    ensures { OnOk result (text.new.items
+        ≡ text.old.items ++ printed_action (actions.Clear target.now)) }
 {
     text.extend_from_slice(b"clear(attribute=")?;
     put_target(text, target)?;
@@ -67,7 +69,8 @@ fn put_header(
     value: &[Piece],
     replace: bool,
 ) -> Result<(), AllocError>
-    ensures { OnOk result (text.new.items ≡ text.old.items ++ printed_action (actions.Header name.now value.now replace)) }
+    ensures { OnOk result (text.new.items
+        ≡ text.old.items ++ printed_action (actions.Header name.now value.now replace)) }
 {
     text.extend_from_slice(b"header(header=")?;
     put_text(text, name)?;
@@ -80,7 +83,8 @@ fn put_header(
 }
 
 fn put_resource(text: &mut Vec<u8>, location: &[u8], listing: bool) -> Result<(), AllocError>
-    ensures { OnOk result (text.new.items ≡ text.old.items ++ printed_action (actions.Resource location.now listing)) }
+    ensures { OnOk result (text.new.items
+        ≡ text.old.items ++ printed_action (actions.Resource location.now listing)) }
 {
     text.extend_from_slice(b"resource(location=")?;
     put_prefix(text, location)?;

@@ -12,7 +12,9 @@ pub fn put_call_of_texts(
     front: &[u8],
     texts: &[Bytes],
 ) -> Result<(), AllocError>
-    ensures { OnOk result (text.new.items ≡ text.old.items ++ (front.now ++ (printed_array (map printed_text texts.now) ++ codes ")"))) }
+    ensures { OnOk result (text.new.items
+        ≡ text.old.items
+        ++ (front.now ++ (printed_array (map printed_text texts.now) ++ codes ")"))) }
 {
     text.extend_from_slice(front)?;
     put_texts(text, texts)?;
@@ -26,7 +28,8 @@ pub fn put_call_of_template(
     front: &[u8],
     template: &[Piece],
 ) -> Result<(), AllocError>
-    ensures { OnOk result (text.new.items ≡ text.old.items ++ (front.now ++ (printed_template template.now ++ codes ")"))) }
+    ensures { OnOk result (text.new.items
+        ≡ text.old.items ++ (front.now ++ (printed_template template.now ++ codes ")"))) }
 {
     text.extend_from_slice(front)?;
     put_template(text, template)?;
@@ -36,7 +39,8 @@ pub fn put_call_of_template(
 
 /// Appends the front of a call up to its number, this number, and the end of the call.
 pub fn put_call_of_number(text: &mut Vec<u8>, front: &[u8], number: u32) -> Result<(), AllocError>
-    ensures { OnOk result (text.new.items ≡ text.old.items ++ (front.now ++ (decimal number ++ codes ")"))) }
+    ensures { OnOk result (text.new.items
+        ≡ text.old.items ++ (front.now ++ (decimal number ++ codes ")"))) }
 {
     text.extend_from_slice(front)?;
     put_number(text, number)?;

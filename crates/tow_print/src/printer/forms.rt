@@ -81,7 +81,8 @@ pub fn named<'a>(before: &'a [u8], name: &'a [u8]) -> Form<'a>
 
 /// What was seen with one more attribute.
 pub fn with_form(seen: Spelling, form: Form<'_>) -> Spelling
-    ensures { (bytes : List ℕ) → ahead result bytes ≡ ahead seen (spelled_form form.entry ++ bytes) }
+    ensures { (bytes : List ℕ)
+        → ahead result bytes ≡ ahead seen (spelled_form form.entry ++ bytes) }
 {
     seen.with_bytes(form.before)
         .with_bytes(form.name)
@@ -90,7 +91,8 @@ pub fn with_form(seen: Spelling, form: Form<'_>) -> Spelling
 
 /// Appends an attribute that stands in a text.
 pub fn put_form(text: &mut Vec<u8>, style: Style, form: Form<'_>) -> Result<(), AllocError>
-    ensures { OnOk result (text.new.items ≡ text.old.items ++ bytes_in style (spelled_form form.entry)) }
+    ensures { OnOk result (text.new.items
+        ≡ text.old.items ++ bytes_in style (spelled_form form.entry)) }
 {
     put_bytes(text, style, form.before)?;
     put_bytes(text, style, form.name)?;

@@ -22,7 +22,8 @@ pub fn put_predicate(
     predicate: &Predicate,
     site: Site,
 ) -> Result<(), AllocError>
-    ensures { OnOk result (text.new.items ≡ text.old.items ++ printed_at predicate.now (tightness site)) }
+    ensures { OnOk result (text.new.items
+        ≡ text.old.items ++ printed_at predicate.now (tightness site)) }
 {
     match predicate {
         Predicate::Is(test) => put_test(text, test),

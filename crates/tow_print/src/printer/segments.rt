@@ -21,7 +21,8 @@ pub fn put_match(text: &mut Vec<u8>, parts: &[Segment]) -> Result<(), AllocError
 
 /// Appends the segments with a `/` between them.
 fn put_segments(text: &mut Vec<u8>, style: Style, parts: &[Segment]) -> Result<(), AllocError>
-    ensures { OnOk result (text.new.items ≡ text.old.items ++ bytes_in style (join_with_byte 47 (map spelled_segment parts.now))) }
+    ensures { OnOk result (text.new.items
+        ≡ text.old.items ++ bytes_in style (join_with_byte 47 (map spelled_segment parts.now))) }
 {
     let [first, rest @ ..] = parts else {
         return Ok(());
@@ -33,7 +34,9 @@ fn put_segments(text: &mut Vec<u8>, style: Style, parts: &[Segment]) -> Result<(
 
 /// What the segments with a `/` between them are.
 fn spelling_of(parts: &[Segment]) -> Spelling
-    ensures { (bytes : List ℕ) → ahead result bytes ≡ ahead Spelling.Empty (join_with_byte 47 (map spelled_segment parts.now) ++ bytes) }
+    ensures { (bytes : List ℕ)
+        → ahead result bytes
+        ≡ ahead Spelling.Empty (join_with_byte 47 (map spelled_segment parts.now) ++ bytes) }
 {
     let [first, rest @ ..] = parts else {
         return Spelling::Empty;
@@ -47,7 +50,8 @@ fn spelling_of(parts: &[Segment]) -> Spelling
 
 /// What was seen with one more segment.
 fn with_segment(seen: Spelling, part: &Segment) -> Spelling
-    ensures { (bytes : List ℕ) → ahead result bytes ≡ ahead seen (spelled_segment part.now ++ bytes) }
+    ensures { (bytes : List ℕ)
+        → ahead result bytes ≡ ahead seen (spelled_segment part.now ++ bytes) }
 {
     match part {
         Segment::Fixed(bytes) => seen.with_bytes(bytes.as_slice()),
@@ -60,7 +64,8 @@ fn with_segment(seen: Spelling, part: &Segment) -> Spelling
 
 /// Appends the segments behind the first.
 fn put_more(text: &mut Vec<u8>, style: Style, parts: &[Segment]) -> Result<(), AllocError>
-    ensures { OnOk result (text.new.items ≡ text.old.items ++ bytes_in style (flat_map (λ p. 47 ∷ spelled_segment p) parts.now)) }
+    ensures { OnOk result (text.new.items
+        ≡ text.old.items ++ bytes_in style (flat_map (λ p. 47 ∷ spelled_segment p) parts.now)) }
 {
     for part in parts {
         put_byte(text, style, b'/')?;
@@ -70,7 +75,8 @@ fn put_more(text: &mut Vec<u8>, style: Style, parts: &[Segment]) -> Result<(), A
 }
 
 fn put_segment(text: &mut Vec<u8>, style: Style, part: &Segment) -> Result<(), AllocError>
-    ensures { OnOk result (text.new.items ≡ text.old.items ++ bytes_in style (spelled_segment part.now)) }
+    ensures { OnOk result (text.new.items
+        ≡ text.old.items ++ bytes_in style (spelled_segment part.now)) }
 {
     match part {
         Segment::Fixed(bytes) => put_bytes(text, style, bytes.as_slice())?,

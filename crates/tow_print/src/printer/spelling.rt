@@ -55,7 +55,9 @@ impl Spelling {
 
 /// Whether the byte may stand in a word outside braces.
 fn is_plain(byte: u8) -> bool
-    ensures { result ≡ ((nat_le 33 byte && nat_le byte 126) && not (list_any (λ c. c == byte) (codes "()[]{},=;'\""))) }
+    ensures { result
+        ≡ ((nat_le 33 byte && nat_le byte 126)
+        && not (list_any (λ c. c == byte) (codes "()[]{},=;'\""))) }
 {
     match byte {
         b'(' | b')' | b'[' | b']' | b'{' | b'}' | b',' | b'=' | b';' | b'\'' | b'"' => false,

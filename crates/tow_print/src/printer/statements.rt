@@ -39,7 +39,8 @@ fn put_statement(text: &mut Vec<u8>, statement: &Statement) -> Result<(), AllocE
 
 #[cycle(put)]
 fn put_block(text: &mut Vec<u8>, parts: &[Statement]) -> Result<(), AllocError>
-    ensures { OnOk result (text.new.items ≡ text.old.items ++ printed_block (map printed_statement parts.now)) }
+    ensures { OnOk result (text.new.items
+        ≡ text.old.items ++ printed_block (map printed_statement parts.now)) }
 {
     text.extend_from_slice(b"{")?;
     let mut between: &[u8] = b" ";

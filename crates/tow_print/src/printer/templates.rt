@@ -32,7 +32,8 @@ pub fn put_template(text: &mut Vec<u8>, template: &[Piece]) -> Result<(), AllocE
 
 /// Appends a template with a long form, as a Word where its spelling is one, else in quotes.
 fn put_long(text: &mut Vec<u8>, template: LongTemplate<'_>) -> Result<(), AllocError>
-    ensures { OnOk result (text.new.items ≡ text.old.items ++ printed_text (spelled_parts template.entry)) }
+    ensures { OnOk result (text.new.items
+        ≡ text.old.items ++ printed_text (spelled_parts template.entry)) }
 {
     let style = style_for(spelling_of_long(template).is_whole());
     put_quote(text, style)?;
@@ -45,7 +46,8 @@ fn put_long(text: &mut Vec<u8>, template: LongTemplate<'_>) -> Result<(), AllocE
 
 /// Appends an array of templates.
 pub fn put_templates(text: &mut Vec<u8>, templates: &[Template]) -> Result<(), AllocError>
-    ensures { OnOk result (text.new.items ≡ text.old.items ++ printed_array (map printed_template templates.now)) }
+    ensures { OnOk result (text.new.items
+        ≡ text.old.items ++ printed_array (map printed_template templates.now)) }
 {
     text.extend_from_slice(b"{")?;
     let [first, rest @ ..] = templates else {
@@ -60,7 +62,8 @@ pub fn put_templates(text: &mut Vec<u8>, templates: &[Template]) -> Result<(), A
 
 /// Appends the templates behind the first of an array.
 fn put_more(text: &mut Vec<u8>, templates: &[Template]) -> Result<(), AllocError>
-    ensures { OnOk result (text.new.items ≡ text.old.items ++ flat_map (λ t. codes ", " ++ printed_template t) templates.now) }
+    ensures { OnOk result (text.new.items
+        ≡ text.old.items ++ flat_map (λ t. codes ", " ++ printed_template t) templates.now) }
 {
     for one in templates {
         text.extend_from_slice(b", ")?;
@@ -71,7 +74,8 @@ fn put_more(text: &mut Vec<u8>, templates: &[Template]) -> Result<(), AllocError
 
 /// What the spelling of a template with a long form is.
 fn spelling_of_long(template: LongTemplate<'_>) -> Spelling
-    ensures { (bytes : List ℕ) → ahead result bytes ≡ ahead Spelling.Empty (spelled_parts template.entry ++ bytes) }
+    ensures { (bytes : List ℕ)
+        → ahead result bytes ≡ ahead Spelling.Empty (spelled_parts template.entry ++ bytes) }
 {
     let seen = spelling_of(Spelling::Empty, template.front);
     spelling_of(with_form(seen, template.long), template.behind)
@@ -79,7 +83,8 @@ fn spelling_of_long(template: LongTemplate<'_>) -> Spelling
 
 /// What was seen with the pieces of a template.
 fn spelling_of(seen: Spelling, template: &[Piece]) -> Spelling
-    ensures { (bytes : List ℕ) → ahead result bytes ≡ ahead seen (spelled_template template.now ++ bytes) }
+    ensures { (bytes : List ℕ)
+        → ahead result bytes ≡ ahead seen (spelled_template template.now ++ bytes) }
 {
     let mut seen = seen;
     for piece in template {
@@ -90,7 +95,8 @@ fn spelling_of(seen: Spelling, template: &[Piece]) -> Spelling
 
 /// What was seen with one more piece.
 fn with_piece(seen: Spelling, piece: &Piece) -> Spelling
-    ensures { (bytes : List ℕ) → ahead result bytes ≡ ahead seen (spelled_piece piece.now ++ bytes) }
+    ensures { (bytes : List ℕ)
+        → ahead result bytes ≡ ahead seen (spelled_piece piece.now ++ bytes) }
 {
     match piece {
         Piece::Literal(bytes) => with_literal(seen, bytes.as_slice()),
@@ -100,7 +106,8 @@ fn with_piece(seen: Spelling, piece: &Piece) -> Spelling
 
 /// What was seen with bytes that stand for themselves.
 fn with_literal(seen: Spelling, literal: &[u8]) -> Spelling
-    ensures { (bytes : List ℕ) → ahead result bytes ≡ ahead seen (spelled_piece (pieces.Literal literal.now) ++ bytes) }
+    ensures { (bytes : List ℕ)
+        → ahead result bytes ≡ ahead seen (spelled_piece (pieces.Literal literal.now) ++ bytes) }
 {
     let mut seen = seen;
     for byte in literal {
@@ -113,7 +120,8 @@ fn with_literal(seen: Spelling, literal: &[u8]) -> Spelling
 }
 
 fn put_pieces(text: &mut Vec<u8>, style: Style, template: &[Piece]) -> Result<(), AllocError>
-    ensures { OnOk result (text.new.items ≡ text.old.items ++ bytes_in style (spelled_template template.now)) }
+    ensures { OnOk result (text.new.items
+        ≡ text.old.items ++ bytes_in style (spelled_template template.now)) }
 {
     for piece in template {
         put_piece(text, style, piece)?;
@@ -122,7 +130,8 @@ fn put_pieces(text: &mut Vec<u8>, style: Style, template: &[Piece]) -> Result<()
 }
 
 fn put_piece(text: &mut Vec<u8>, style: Style, piece: &Piece) -> Result<(), AllocError>
-    ensures { OnOk result (text.new.items ≡ text.old.items ++ bytes_in style (spelled_piece piece.now)) }
+    ensures { OnOk result (text.new.items
+        ≡ text.old.items ++ bytes_in style (spelled_piece piece.now)) }
 {
     match piece {
         Piece::Literal(bytes) => put_literal(text, style, bytes.as_slice()),
@@ -132,7 +141,8 @@ fn put_piece(text: &mut Vec<u8>, style: Style, piece: &Piece) -> Result<(), Allo
 
 /// Appends bytes that stand for themselves, each `%` as `%%`.
 fn put_literal(text: &mut Vec<u8>, style: Style, literal: &[u8]) -> Result<(), AllocError>
-    ensures { OnOk result (text.new.items ≡ text.old.items ++ bytes_in style (spelled_piece (pieces.Literal literal.now))) }
+    ensures { OnOk result (text.new.items
+        ≡ text.old.items ++ bytes_in style (spelled_piece (pieces.Literal literal.now))) }
 {
     for byte in literal {
         if *byte == b'%' {

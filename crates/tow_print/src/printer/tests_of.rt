@@ -35,7 +35,8 @@ pub fn put_test(text: &mut Vec<u8>, test: &Test) -> Result<(), AllocError>
 }
 
 fn put_prefix_test(text: &mut Vec<u8>, prefixes: &[Bytes]) -> Result<(), AllocError>
-    ensures { OnOk result (text.new.items ≡ text.old.items ++ printed_test (tests.Prefix prefixes.now)) }
+    ensures { OnOk result (text.new.items
+        ≡ text.old.items ++ printed_test (tests.Prefix prefixes.now)) }
 {
     text.extend_from_slice(b"path-prefix(path=")?;
     put_prefixes(text, prefixes)?;
@@ -48,7 +49,8 @@ fn put_path_template(
     parts: &[Segment],
     value: &[Piece],
 ) -> Result<(), AllocError>
-    ensures { OnOk result (text.new.items ≡ text.old.items ++ printed_test (tests.PathTemplate parts.now value.now)) }
+    ensures { OnOk result (text.new.items
+        ≡ text.old.items ++ printed_test (tests.PathTemplate parts.now value.now)) }
 {
     text.extend_from_slice(b"path-template(match=")?;
     put_match(text, parts)?;
@@ -57,7 +59,8 @@ fn put_path_template(
 }
 
 fn put_regex(text: &mut Vec<u8>, pattern: &[u8], value: &[Piece]) -> Result<(), AllocError>
-    ensures { OnOk result (text.new.items ≡ text.old.items ++ printed_test (tests.Regex 0 pattern.now value.now)) }
+    ensures { OnOk result (text.new.items
+        ≡ text.old.items ++ printed_test (tests.Regex 0 pattern.now value.now)) }
 {
     text.extend_from_slice(b"regex(pattern=")?;
     put_text(text, pattern)?;
@@ -66,7 +69,8 @@ fn put_regex(text: &mut Vec<u8>, pattern: &[u8], value: &[Piece]) -> Result<(), 
 }
 
 fn put_equals(text: &mut Vec<u8>, values: &[Template]) -> Result<(), AllocError>
-    ensures { OnOk result (text.new.items ≡ text.old.items ++ printed_test (tests.Equals values.now)) }
+    ensures { OnOk result (text.new.items
+        ≡ text.old.items ++ printed_test (tests.Equals values.now)) }
 {
     text.extend_from_slice(b"equals(value=")?;
     put_templates(text, values)?;
@@ -75,7 +79,8 @@ fn put_equals(text: &mut Vec<u8>, values: &[Template]) -> Result<(), AllocError>
 }
 
 fn put_contains(text: &mut Vec<u8>, value: &[Piece], search: &[Bytes]) -> Result<(), AllocError>
-    ensures { OnOk result (text.new.items ≡ text.old.items ++ printed_test (tests.Contains value.now search.now)) }
+    ensures { OnOk result (text.new.items
+        ≡ text.old.items ++ printed_test (tests.Contains value.now search.now)) }
 {
     text.extend_from_slice(b"contains(value=")?;
     put_template(text, value)?;

@@ -54,7 +54,8 @@ fn ends_open(bytes: &[u8]) -> bool
 
 /// Appends an array of texts.
 pub fn put_texts(text: &mut Vec<u8>, texts: &[Bytes]) -> Result<(), AllocError>
-    ensures { OnOk result (text.new.items ≡ text.old.items ++ printed_array (map printed_text texts.now)) }
+    ensures { OnOk result (text.new.items
+        ≡ text.old.items ++ printed_array (map printed_text texts.now)) }
 {
     text.extend_from_slice(b"{")?;
     let [first, rest @ ..] = texts else {
@@ -69,7 +70,8 @@ pub fn put_texts(text: &mut Vec<u8>, texts: &[Bytes]) -> Result<(), AllocError>
 
 /// Appends the texts behind the first of an array.
 fn put_more_texts(text: &mut Vec<u8>, texts: &[Bytes]) -> Result<(), AllocError>
-    ensures { OnOk result (text.new.items ≡ text.old.items ++ flat_map (λ t. codes ", " ++ printed_text t) texts.now) }
+    ensures { OnOk result (text.new.items
+        ≡ text.old.items ++ flat_map (λ t. codes ", " ++ printed_text t) texts.now) }
 {
     for one in texts {
         text.extend_from_slice(b", ")?;
@@ -80,7 +82,8 @@ fn put_more_texts(text: &mut Vec<u8>, texts: &[Bytes]) -> Result<(), AllocError>
 
 /// Appends an array of prefixes.
 pub fn put_prefixes(text: &mut Vec<u8>, prefixes: &[Bytes]) -> Result<(), AllocError>
-    ensures { OnOk result (text.new.items ≡ text.old.items ++ printed_array (map printed_prefix prefixes.now)) }
+    ensures { OnOk result (text.new.items
+        ≡ text.old.items ++ printed_array (map printed_prefix prefixes.now)) }
 {
     text.extend_from_slice(b"{")?;
     let [first, rest @ ..] = prefixes else {
@@ -95,7 +98,8 @@ pub fn put_prefixes(text: &mut Vec<u8>, prefixes: &[Bytes]) -> Result<(), AllocE
 
 /// Appends the prefixes behind the first of an array.
 fn put_more_prefixes(text: &mut Vec<u8>, prefixes: &[Bytes]) -> Result<(), AllocError>
-    ensures { OnOk result (text.new.items ≡ text.old.items ++ flat_map (λ p. codes ", " ++ printed_prefix p) prefixes.now) }
+    ensures { OnOk result (text.new.items
+        ≡ text.old.items ++ flat_map (λ p. codes ", " ++ printed_prefix p) prefixes.now) }
 {
     for one in prefixes {
         text.extend_from_slice(b", ")?;

@@ -1,4 +1,3 @@
-use Rattle.tow_model.specs.declared.action.Target.TheVariants.{RelativePath}
 use Rattle.tow_semantics.specs.Values.{value_of}
 use Rattle.tow_semantics.specs.Writing.{assigned}
 use Rattle.tow_effect.specs.Writes.{headed}

@@ -1,4 +1,4 @@
-use Rattle.std.proofs.Common.{◌≡◌, ◌∷◌, ◌++◌, [], arith, not, refl, length-append}
+use Rattle.std.proofs.Common.{◌∷◌, [], arith, not, refl, length-append}
 use Rattle.std.proofs.lemmas.Bool.Decides.{nat_tests}
 use Rattle.std.proofs.lemmas.List.Filters.{length-filter_both}
 use Rattle.tow_model.specs.Fields.{field, is_named, without}

@@ -1,7 +1,6 @@
-use Rattle.std.proofs.Common.{rules, ◌≡◌, ◌+◌, ◌∷◌, drop, drop-cons, add-one, refl, ap, ◌∙◌}
+use Rattle.std.proofs.Common.{rules, ◌≡◌, ◌+◌, ◌∷◌, drop, drop-cons, add-one, refl, ◌∙◌}
 use Rattle.std.proofs.lemmas.List.{drop_all}
 use Rattle.std.proofs.lemmas.Result.{IfOk-weaker}
-use Rattle.tow_model.specs.declared.record.Record.{Record}
 use Rattle.tow_model.specs.declared.statement.Statement.{the_lemmas}
 use Rattle.tow_site.proofs.Building.{built_then, built_else, built_first, built_rest, block_is}
 use Rattle.tow_pred.proofs.Trees.{among_asked, among_then, among_else, among_block, among_first, among_rest}

@@ -1,4 +1,4 @@
-use Rattle.std.proofs.Common.{◌≡◌, ◌≢◌, sym, ap, ◌∙◌}
+use Rattle.std.proofs.Common.{◌≡◌, sym, ap, ◌∙◌}
 use Rattle.tow_model.specs.declared.record.Record.{Record}
 use Rattle.tow_semantics.specs.Effects as effects
 use Rattle.tow_semantics.specs.Plans.{marked}
