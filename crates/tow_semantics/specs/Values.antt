@@ -68,9 +68,16 @@ is_decided (Whole bytes) = true
 is_decided (File path len) = true
 is_decided (Listing bytes) = true
 
--- HEAD, 204 and 304 have no content (RFC 9110, sections 9.3.2, 15.3.5 and 15.4.5)
+-- 204 and 304 tell nothing of their content and have none (RFC 9110, sections 15.3.5 and 15.4.5)
+abbrev pub is_bare : ℕ → Bool
+is_bare status = status == 204 || status == 304
+
+-- nor is there content in an answer to HEAD (RFC 9110, section 9.3.2)
+abbrev pub has_no_content : Request → ℕ → Bool
+has_no_content q status = bytes_eq q.method (codes "HEAD") || is_bare status
+
 abbrev pub has_content : Request → Record → Bool
-has_content q x = not (bytes_eq q.method (codes "HEAD") || x.status == 204 || x.status == 304)
+has_content q x = not (has_no_content q x.status)
 
 -- how many bytes of content the answer has, without its framing
 abbrev pub sent : Request → Record → ℕ
