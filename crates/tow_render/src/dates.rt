@@ -1,3 +1,5 @@
+//! The value of a date field (RFC 9110, section 5.6.7).
+
 ghost use Rattle.std.specs.Prelude.{◌≡◌, ◌<◌, IfOk};
 ghost use Rattle.tow_model.specs.Dates.{IsDate, date_of, first_undated};
 
@@ -15,13 +17,6 @@ pub fn date(alloc: Global, second: u64) -> Result<Bytes, NoMemory>
 }
 
 fn date_bytes(second: u64) -> [u8; 29]
-    requires { second < first_undated }
-    ensures { result ≡ date_of second }
-{
-    calendar_bytes(second)
-}
-
-fn calendar_bytes(second: u64) -> [u8; 29]
     requires { second < first_undated }
     ensures { IsDate second result }
 {

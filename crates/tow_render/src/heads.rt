@@ -1,3 +1,5 @@
+//! The head of an answer: its status line, its field lines and the empty line (RFC 9112, section 2.1).
+
 ghost use Rattle.std.specs.Prelude.{◌≡◌, ◌++◌, IfOk, OnOk, codes, decimal, flat_map};
 ghost use Rattle.tow_wire.specs.Answers.{field_line, head_text};
 ghost use Rattle.tow_wire.specs.Reasons.{reason_of};

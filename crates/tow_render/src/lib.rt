@@ -2,9 +2,9 @@
 //! line, and the value of its date field.
 #![tactic(auto)]
 
-pub mod dates;
-pub mod heads;
-pub mod reasons;
+mod dates;
+mod heads;
+mod reasons;
 #[cfg(test)]
 mod tests;
 

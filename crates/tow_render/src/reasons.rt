@@ -1,3 +1,5 @@
+//! The reasons of statuses (RFC 9110, section 15).
+
 ghost use Rattle.std.specs.Prelude.{◌≡◌};
 ghost use Rattle.tow_wire.specs.Reasons.{reason_of};
 
