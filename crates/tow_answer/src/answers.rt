@@ -1,3 +1,5 @@
+//! The answer that the record of an exchange is, and its bytes.
+
 ghost use Rattle.std.specs.Prelude.{◌≡◌, ◌<◌, ℕ, List, Bool, false, Option, IfOk};
 ghost use Rattle.tow_model.specs.declared.content.Content.{Content};
 ghost use Rattle.tow_wire.specs.Answers.{answer, answer_of};

@@ -1,5 +1,9 @@
+//! The fields that an answer adds to those of its record: the date, what becomes of the connection, and how the content is
+//! framed.
+
 ghost use Rattle.std.specs.Prelude.{◌≡◌, ◌<◌, ◌++◌, ◌∷◌, [], OnOk, IfOk, codes, decimal};
-ghost use Rattle.tow_wire.specs.Answers.{connection_fields, is_bare, known_length, length_fields};
+ghost use Rattle.tow_semantics.specs.Values.{is_bare};
+ghost use Rattle.tow_wire.specs.Answers.{connection_fields, known_length, length_fields};
 ghost use Rattle.tow_model.specs.Dates.{date_of, first_undated};
 ghost use Rattle.tow_model.specs.Fields.{field};
 
@@ -44,7 +48,7 @@ pub(crate) fn push_date(alloc: Global, fields: &mut Vec<Field>, moment: u64) -> 
     Ok(())
 }
 
-/// Adds what becomes of the connection, where the version does not say it (RFC 9112, section 9.3).
+/// Adds what becomes of the connection, if the version does not say it (RFC 9112, section 9.3).
 pub(crate) fn push_connection(
     alloc: Global,
     fields: &mut Vec<Field>,
@@ -98,7 +102,7 @@ fn is_bare(status: u16) -> bool
     status == 204 || status == 304
 }
 
-/// The length of the content in bytes, where the head can tell it.
+/// The length of the content in bytes, if the head can tell it.
 pub(crate) fn known_length(choice: &Choice) -> Option<u64>
     ensures { result ≡ known_length choice.now }
 {

@@ -1,3 +1,5 @@
+//! The answer to a head that is refused.
+
 ghost use Rattle.std.specs.Prelude.{◌≡◌, ◌<◌, ◌∷◌, [], IfOk, codes};
 ghost use Rattle.tow_wire.specs.Answers.{refusal_text};
 ghost use Rattle.tow_model.specs.Dates.{date_of, first_undated};

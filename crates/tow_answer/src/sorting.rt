@@ -1,3 +1,5 @@
+//! The order of an answer's fields.
+
 ghost use Rattle.std.specs.Prelude.{◌≡◌, ◌≤◌, IfOk, OnOk, insert, length};
 ghost use Rattle.tow_wire.specs.Answers.{placed, sorted};
 ghost use Rattle.tow_model.specs.Lists.{bytes_le};
@@ -9,11 +11,12 @@ use tow_model::{Field, List};
 pub(crate) fn sorted(alloc: Global, mut fields: Vec<Field>) -> Result<List<Field>, AllocError>
     ensures { IfOk result (λ s. s ≡ sorted fields.items) }
 {
-    let mut behind = Vec::with_capacity(alloc, fields.len())?;
+    // The last field is placed first, and each one before those of its own name: so these keep their order.
+    let mut placed = Vec::with_capacity(alloc, fields.len())?;
     while let Some(field) = fields.pop() {
-        place(&mut behind, field)?;
+        place(&mut placed, field)?;
     }
-    Ok(List::from_vec(behind))
+    Ok(List::from_vec(placed))
 }
 
 /// Puts a field in its place among sorted ones, before those of its own name.

@@ -1,8 +1,5 @@
 -- What is known of a request that a connection serves, and of a head that it refuses.
-use Rattle.std.proofs.Common.{◌≡◌, ℕ, suc, arith, ◌⊎◌, inl, inr, Bool, true, false, ◌||◌, ◌&&◌, nat_lt, List, [], ◌∷◌, length, map, filter, take, drop, Option, Some, None, refl, sym, ap, subst, ◌∙◌, if◌then◌else◌}
-use Rattle.std.proofs.Math.Bool.{cond}
-use Rattle.std.proofs.lemmas.Bool.Decides.{nat_tests}
-use Rattle.std.specs.List.{list_any}
+use Rattle.std.proofs.Common.{◌≡◌, ℕ, arith, ◌⊎◌, inl, inr, Bool, true, false, ◌&&◌, List, take, drop, Option, Some, None, refl, sym, ap, subst, ◌∙◌, if◌then◌else◌}
 use Rattle.httparse.specs.Grammar.{RequestHead}
 use Rattle.tow_model.specs.declared.request.Field.{Field}
 use Rattle.tow_model.specs.declared.request.Framing.{Framing}
@@ -10,29 +7,12 @@ use Rattle.tow_model.specs.declared.request.Framing.TheVariants.{Empty, Fixed, C
 use Rattle.tow_model.specs.declared.request.Request.{Request}
 use Rattle.tow_model.specs.declared.request.Version.{Version}
 use Rattle.tow_model.specs.declared.request.Version.TheVariants.{V10, V11}
-use Rattle.tow_model.specs.Texts.{Text}
-use Rattle.tow_model.specs.Fields.{is_named, has}
+use Rattle.tow_model.specs.Fields.{has}
 use Rattle.tow_message.specs.Heads.{Head, IsRefusedBy, refusal, connection_refusal, is_framed, is_unserved, fields_of, framing_of, version_of, expects_by}
 use Rattle.tow_message.specs.Stream.{HasRequest, IsNoRequest, IsRefused}
 use Rattle.tow_request.specs.NextHead.{IsHopeless}
 use Rattle.tow_model.proofs.Resolving.{neither}
 use Rattle.tow_request.proofs.Fronts.{front_has}
-
--- ---- fields
-
-above : (n : ℕ) → true ≡ nat_lt 0 (suc n)
-above n = grind (arith, nat_tests)
-
--- some field has the name
-pub some_named : (name : Text) (fields : List Field) → list_any (is_named name) fields ≡ has name fields
-some_named name [] = refl
-some_named name (f ∷ fields) = by_test (is_named name f) (some_named name fields)
-  where
-    by_test : (t : Bool) → list_any (is_named name) fields ≡ has name fields
-        → (t || list_any (is_named name) fields)
-        ≡ nat_lt 0 (length (map (λ (g : Field). g.value) (cond t (f ∷ filter (is_named name) fields) (filter (is_named name) fields))))
-    by_test true e = above _
-    by_test false e = e
 
 -- ---- refusals
 

@@ -11,14 +11,15 @@ use Rattle.tow_link.proofs.Appending.{append_known-append}
 use Rattle.tow_model.specs.declared.request.Request.{Request}
 use Rattle.tow_model.specs.declared.statement.Statement.{Statement}
 use Rattle.tow_wire.specs.Answers.{refusal_text}
-use Rattle.tow_message.specs.Stream.{IsBlank, IsNoRequest, IsRefused, Reads}
+use Rattle.tow_message.specs.Stream.{IsBlank, IsNoRequest, IsRefused, ReadsStream}
 use Rattle.tow_semantics.specs.Sites.{run_of}
 use Rattle.tow_wire.specs.Wire.{wire_from}
 use Rattle.tow_model.specs.declared.account.End.{End}
 use Rattle.tow_conn.specs.declared.progress.Progress.{Progress}
 use Rattle.tow_conn.specs.declared.progress.Turn.{Turn}
 use Rattle.tow_conn.specs.declared.progress.Turn.TheVariants.{Goes, Ended}
-use Rattle.tow_conn.specs.Conversations.{local_peer, Leads, Ends, Answers}
+use Rattle.tow_model.specs.declared.limits.TheConstants.{LOCAL_PEER}
+use Rattle.tow_conn.specs.Conversations.{Leads, Ends, Answers}
 use Rattle.tow_conn.specs.Turns.{Moments, open_bytes, BothTell, LeadsOn, GoesOn, EndIsTold, WritesRest, WritesFront, WritesWire, WritesPart}
 use Rattle.tow_conn.proofs.Conversing.{leads_nowhere, leads_same, leads_further, request_leads, request_ends, refusal_ends, blank_ends}
 use Rattle.tow_conn.proofs.Fronts.{IsServed, request_before, refused_before, hopeless_before}
@@ -138,7 +139,7 @@ front_of tree table a b t u o p one = front_after tree table a b t u o p p one (
 
 -- the first request was answered by the text, which does not close
 pub goes_answered : (tree : List Statement) (table : Moments) (old new : Progress) (told : Option Told) (used : ℕ) (q : Request) (text : List ℕ) (o p : Option (List ℕ))
-    → IsServed (take used old.inbox) local_peer q → new.inbox ≡ drop used old.inbox → new.number ≡ old.number + 1
+    → IsServed (take used old.inbox) LOCAL_PEER q → new.inbox ≡ drop used old.inbox → new.number ≡ old.number + 1
     → IfSome table (λ moments. Answers (run_of tree [] moments) old.number q text false) → p ≡ append_known o text → GoesOn tree table old new told told o p
 goes_answered tree table old new told used q text o p head inbox number answers appended = record { written = text; appended = appended; leads = by table told answers }
   where
@@ -146,8 +147,8 @@ goes_answered tree table old new told used q text o p head inbox number answers 
     by table None answers = tt
     by None (Some t) answers = tt
     by (Some moments) (Some t) answers =
-        let has = request_before old.inbox t.left used local_peer q head in
-        let plain = served_framing local_peer _ q _ has in
+        let has = request_before old.inbox t.left used LOCAL_PEER q head in
+        let plain = served_framing LOCAL_PEER _ q _ has in
         let leads = request_leads (run_of tree [] moments) old.number (open_bytes old t) (drop used old.inbox ++ t.left) q text has plain answers in
         let next : suc old.number ≡ new.number = omega (arith, number) in
         subst (λ (n : ℕ). Leads (run_of tree [] moments) old.number (open_bytes old t) text n (open_bytes new t)) next
@@ -159,12 +160,12 @@ AsksFor tree table progress told text = IfSome told (λ t. IfSome table (λ mome
 
 -- the first request was answered by the text, which closes
 pub asks_answered : (tree : List Statement) (table : Moments) (progress : Progress) (told : Option Told) (used : ℕ) (q : Request) (text : List ℕ)
-    → IsServed (take used progress.inbox) local_peer q → IfSome table (λ moments. Answers (run_of tree [] moments) progress.number q text true) → AsksFor tree table progress told text
+    → IsServed (take used progress.inbox) LOCAL_PEER q → IfSome table (λ moments. Answers (run_of tree [] moments) progress.number q text true) → AsksFor tree table progress told text
 asks_answered tree table progress None used q text head answers = tt
 asks_answered tree None progress (Some t) used q text head answers = tt
 asks_answered tree (Some moments) progress (Some t) used q text head answers =
-    let has = request_before progress.inbox t.left used local_peer q head in
-    let plain = served_framing local_peer _ q _ has in
+    let has = request_before progress.inbox t.left used LOCAL_PEER q head in
+    let plain = served_framing LOCAL_PEER _ q _ has in
     request_ends (run_of tree [] moments) progress.number (open_bytes progress t) (drop used progress.inbox ++ t.left) q text has plain answers
 
 -- a refusal
@@ -211,24 +212,24 @@ front_rest tree (Some moments) progress (Some t) o p rest = λ stream reads. par
 
 -- a front of the answer to the first request, whether it closes or not
 pub front_answered : (tree : List Statement) (table : Moments) (progress : Progress) (told : Option Told) (used : ℕ) (q : Request) (text : List ℕ) (close : Bool) (o p : Option (List ℕ))
-    → IsServed (take used progress.inbox) local_peer q → IfSome table (λ moments. Answers (run_of tree [] moments) progress.number q text close) → AppendsPart o p text
+    → IsServed (take used progress.inbox) LOCAL_PEER q → IfSome table (λ moments. Answers (run_of tree [] moments) progress.number q text close) → AppendsPart o p text
     → WritesFront tree table progress told o p
 front_answered tree table progress told used q text true o p head answers part =
     front_written tree table progress told text o p (asks_answered tree table progress told used q text head answers) part
 front_answered tree table progress None used q text false o p head answers part = tt
 front_answered tree None progress (Some t) used q text false o p head answers part = tt
 front_answered tree (Some moments) progress (Some t) used q text false o p head answers part = λ stream reads.
-    let has = request_before progress.inbox t.left used local_peer q head in
-    let plain = served_framing local_peer _ q _ has in
+    let has = request_before progress.inbox t.left used LOCAL_PEER q head in
+    let plain = served_framing LOCAL_PEER _ q _ has in
     let then = request_leads (run_of tree [] moments) progress.number (open_bytes progress t) (drop used progress.inbox ++ t.left) q text has plain answers stream reads in
     part_longer o p text _ _ then.2 part
 
 -- ---- from what the clock and the reply tell
 
 -- a request that is served expects nothing
-pub expects_nothing : (bytes : List ℕ) (q : Request) → IsServed bytes local_peer q → q.expects ≡ false
+pub expects_nothing : (bytes : List ℕ) (q : Request) → IsServed bytes LOCAL_PEER q → q.expects ≡ false
 expects_nothing bytes q (is, now) =
-    served_expects local_peer bytes q [] (record { head = is.head; reads = is.whole; served = served_head bytes local_peer q is now; request = is.request })
+    served_expects LOCAL_PEER bytes q [] (record { head = is.head; reads = is.whole; served = served_head bytes LOCAL_PEER q is now; request = is.request })
 
 pub answers_told : (tree : List Statement) (table : Moments) (number moment : ℕ) (q : Request) (text : List ℕ) (close : Bool)
     → IfSome table (λ moments. moment ≡ moments 0 number) → q.expects ≡ false
@@ -245,7 +246,7 @@ pub wire_of_rest : (tree : List Statement) (table : Moments) (progress : Progres
 wire_of_rest tree table progress None o p empty first rest = tt
 wire_of_rest tree None progress (Some t) o p empty first rest = tt
 wire_of_rest tree (Some moments) progress (Some t) o p empty first rest = λ stream reads.
-    rest stream (subst (λ (l : List ℕ). Reads local_peer (l ++ t.left) stream) (sym empty) reads)
+    rest stream (subst (λ (l : List ℕ). ReadsStream LOCAL_PEER (l ++ t.left) stream) (sym empty) reads)
     ∙ ap (λ (n : ℕ). append_known o (wire_from (run_of tree [] moments) 0 n stream [])) first
 
 pub part_of_front : (tree : List Statement) (table : Moments) (progress : Progress) (told : Option Told) (o p : Option (List ℕ))
@@ -254,7 +255,7 @@ part_of_front tree table progress None o p empty first front = tt
 part_of_front tree None progress (Some t) o p empty first front = tt
 part_of_front tree (Some moments) progress (Some t) o p empty first front = λ stream reads.
     subst (λ (n : ℕ). AppendsPart o p (wire_from (run_of tree [] moments) 0 n stream [])) first
-    (front stream (subst (λ (l : List ℕ). Reads local_peer (l ++ t.left) stream) (sym empty) reads))
+    (front stream (subst (λ (l : List ℕ). ReadsStream LOCAL_PEER (l ++ t.left) stream) (sym empty) reads))
 
 end_in : Turn → End → End
 end_in Goes other = other

@@ -5,11 +5,12 @@ use Rattle.tow_link.specs.Data.{Told}
 use Rattle.tow_link.specs.Calls.{IsDrained}
 use Rattle.tow_link.specs.Runs.{AppendsPart}
 use Rattle.tow_model.specs.declared.statement.Statement.{Statement}
-use Rattle.tow_message.specs.Stream.{Stream, Reads}
+use Rattle.tow_message.specs.Stream.{Stream, ReadsStream}
 use Rattle.tow_semantics.specs.Sites.{run_of}
 use Rattle.tow_wire.specs.Wire.{wire, wire_from}
 use Rattle.tow_conn.specs.declared.progress.Progress.{Progress}
-use Rattle.tow_conn.specs.Conversations.{local_peer, Leads}
+use Rattle.tow_model.specs.declared.limits.TheConstants.{LOCAL_PEER}
+use Rattle.tow_conn.specs.Conversations.{Leads}
 
 -- where a clock tells, the second of each request of each connection
 abbrev pub Moments : Type 0
@@ -45,25 +46,25 @@ EndIsTold progress told = IsTrue progress.ended → IsDrained told
 -- the output gained all that the open bytes ask for
 abbrev pub WritesRest : List Statement → Moments → Progress → Option Told → Option (List ℕ) → Option (List ℕ) → Type 0
 WritesRest tree table progress told output output' =
-    IfSome told (λ t. IfSome table (λ moments. (stream : Stream) → Reads local_peer (open_bytes progress t) stream →
+    IfSome told (λ t. IfSome table (λ moments. (stream : Stream) → ReadsStream LOCAL_PEER (open_bytes progress t) stream →
     output' ≡ append_known output (wire_from (run_of tree [] moments) 0 progress.number stream [])))
 
 -- the output gained a front of that
 abbrev pub WritesFront : List Statement → Moments → Progress → Option Told → Option (List ℕ) → Option (List ℕ) → Type 0
 WritesFront tree table progress told output output' =
-    IfSome told (λ t. IfSome table (λ moments. (stream : Stream) → Reads local_peer (open_bytes progress t) stream →
+    IfSome told (λ t. IfSome table (λ moments. (stream : Stream) → ReadsStream LOCAL_PEER (open_bytes progress t) stream →
     AppendsPart output output' (wire_from (run_of tree [] moments) 0 progress.number stream [])))
 
 -- Where the input and the clock tell: however the input is read, the output gained the whole wire of connection 0.
 abbrev pub WritesWire : List Statement → Moments → Option Told → Option (List ℕ) → Option (List ℕ) → Type 0
 WritesWire tree table told output output' =
-    IfSome told (λ t. IfSome table (λ moments. (stream : Stream) → Reads local_peer t.left stream →
+    IfSome told (λ t. IfSome table (λ moments. (stream : Stream) → ReadsStream LOCAL_PEER t.left stream →
     output' ≡ append_known output (wire (run_of tree [] moments) 0 stream [])))
 
 -- The same of a front of the wire.
 abbrev pub WritesPart : List Statement → Moments → Option Told → Option (List ℕ) → Option (List ℕ) → Type 0
 WritesPart tree table told output output' =
-    IfSome told (λ t. IfSome table (λ moments. (stream : Stream) → Reads local_peer t.left stream →
+    IfSome told (λ t. IfSome table (λ moments. (stream : Stream) → ReadsStream LOCAL_PEER t.left stream →
     AppendsPart output output' (wire (run_of tree [] moments) 0 stream [])))
 
 -- how much of the inbox is empty, and whether the end of the input is still to be found

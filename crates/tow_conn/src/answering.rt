@@ -1,3 +1,5 @@
+//! A turn that answers a request or a refusal.
+
 ghost use Rattle.std.specs.Prelude.{◌≡◌, ◌≢◌, ◌≤◌, ◌+◌, ◌⊎◌, ℕ, List, Option, IfSome, IsTrue, false, length, take, drop};
 ghost use Rattle.tow_link.specs.Data.{Rose, Told};
 ghost use Rattle.tow_message.specs.Heads.{Head, is_unserved};
@@ -5,11 +7,13 @@ ghost use Rattle.tow_message.specs.Stream.{IsNoRequest, IsRefused};
 ghost use Rattle.tow_request.specs.NextHead.{IsHopeless};
 ghost use Rattle.tow_site.specs.Built.{is_built};
 ghost use Rattle.tow_site.specs.Compiled.{pattern_texts};
-ghost use Rattle.tow_conn.specs.Conversations.{local_peer};
+ghost use Rattle.tow_model.specs.declared.limits.TheConstants.{LOCAL_PEER};
+ghost use Rattle.tow_model.specs.declared.statement.Statement.{Statement};
 ghost use Rattle.tow_conn.specs.Turns.{EndIsTold, GoesOn, WritesRest, WritesFront};
 
 use crate::progress::{Progress, Turn};
 use crate::reply::reply_to;
+use crate::unserved::ONLY_CONNECTION;
 use std::alloc::Global;
 use tow_answer::refusal;
 use tow_host::Clock;
@@ -18,7 +22,7 @@ use tow_model::{End, Request};
 use tow_pred::Scratch;
 use tow_site::Site;
 
-/// Answers the request whose head is the first `used` bytes of the inbox, and that is served, and takes these from it where the connection goes on.
+/// Writes the answer to a request that is served. If the connection goes on, the `used` bytes of its head leave the inbox.
 pub fn answer_request<O: Sink, C: Clock>(
     alloc: Global,
     site: &Site,
@@ -32,7 +36,7 @@ pub fn answer_request<O: Sink, C: Clock>(
     requires built { IsTrue (is_built site.now.tree) }
     requires scratch { scratch.old ≡ pattern_texts site.now.tree }
     requires used { used ≤ length progress.old.inbox }
-    requires head { Head (take used progress.old.inbox) local_peer request.now }
+    requires head { Head (take used progress.old.inbox) LOCAL_PEER request.now }
     requires served { is_unserved request.now.version request.now.framing request.now.fields ≡ false }
     requires number { progress.old.number ≤ 1000 }
     ensures table { C.table clock.new ≡ C.table clock.old }
@@ -46,7 +50,7 @@ pub fn answer_request<O: Sink, C: Clock>(
     ensures later { (O.shows output.old).faults ≤ (O.shows output.new).faults }
     ensures failed { result ≡ Turn.Ended End.LinkFault → Rose (O.shows output.old).faults (O.shows output.new).faults }
 {
-    let moment = clock.at(0, progress.number);
+    let moment = clock.at(ONLY_CONNECTION, progress.number);
     let reply = match reply_to(alloc, site, scratch, request, progress.number, moment) {
         Ok(reply) => reply,
         Err(_memory) => return Turn::Ended(End::NoMemory),
@@ -65,7 +69,6 @@ pub fn answer_request<O: Sink, C: Clock>(
 /// Answers a head that is refused, or bytes that will be no head, with this status; the connection ends.
 pub fn answer_refusal<O: Sink, C: Clock>(
     alloc: Global,
-    site: &Site,
     output: &mut O,
     clock: &mut C,
     progress: &Progress,
@@ -73,14 +76,13 @@ pub fn answer_refusal<O: Sink, C: Clock>(
 ) -> End
     requires why { IsRefused progress.now.inbox status ⊎ ((status ≡ 400) × IsNoRequest progress.now.inbox × IsHopeless progress.now.inbox progress.now.ended) }
     ensures table { C.table clock.new ≡ C.table clock.old }
-    ensures done { result ≡ End.Done → (told : Option Told) → EndIsTold progress.now told → WritesRest site.now.tree (C.table clock.old) progress.now told (O.shows output.old).written (O.shows output.new).written }
-    ensures front { (told : Option Told) → EndIsTold progress.now told → WritesFront site.now.tree (C.table clock.old) progress.now told (O.shows output.old).written (O.shows output.new).written }
+    ensures done { result ≡ End.Done → (tree : List Statement) (told : Option Told) → EndIsTold progress.now told → WritesRest tree (C.table clock.old) progress.now told (O.shows output.old).written (O.shows output.new).written }
+    ensures front { (tree : List Statement) (told : Option Told) → EndIsTold progress.now told → WritesFront tree (C.table clock.old) progress.now told (O.shows output.old).written (O.shows output.new).written }
     ensures ends { result ≢ End.FolderFault }
     ensures later { (O.shows output.old).faults ≤ (O.shows output.new).faults }
     ensures failed { result ≡ End.LinkFault → Rose (O.shows output.old).faults (O.shows output.new).faults }
 {
-    let _site = site;
-    let moment = clock.at(0, progress.number);
+    let moment = clock.at(ONLY_CONNECTION, progress.number);
     let text = match refusal(alloc, status, moment) {
         Ok(text) => text,
         Err(_memory) => return End::NoMemory,

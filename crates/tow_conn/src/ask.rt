@@ -1,3 +1,5 @@
+//! The turns of a connection, from its first request to its end.
+
 ghost use Rattle.std.specs.Prelude.{◌≡◌, ◌≢◌, ◌≤◌, ◌<◌, ◌⊎◌, IsTrue, length};
 ghost use Rattle.tow_link.specs.Data.{Rose};
 ghost use Rattle.tow_site.specs.Built.{is_built};
@@ -13,12 +15,10 @@ use std::alloc::Global;
 use tow_host::Clock;
 use tow_link::{Joined, Sink, Source};
 use tow_model::End;
+use tow_model::limits::LOCAL_PEER;
 use tow_pred::Scratch;
 use tow_request::{NextHead, next_head};
 use tow_site::Site;
-
-/// 127.0.0.1, the peer of standard input.
-const LOCAL_PEER: u32 = 2_130_706_433;
 
 /// One turn of a connection: a head that has come is answered, or more of the input is read.
 fn take_turn<I: Source, O: Sink, C: Clock>(
@@ -48,14 +48,7 @@ fn take_turn<I: Source, O: Sink, C: Clock>(
     match next_head(alloc, progress.inbox.view(), progress.ended, LOCAL_PEER) {
         NextHead::Head(request, used) => {
             if is_unserved(&request) {
-                return Turn::Ended(answer_refusal(
-                    alloc,
-                    site,
-                    &mut link.output,
-                    clock,
-                    progress,
-                    501,
-                ));
+                return Turn::Ended(answer_refusal(alloc, &mut link.output, clock, progress, 501));
             }
             answer_request(
                 alloc,
@@ -72,7 +65,6 @@ fn take_turn<I: Source, O: Sink, C: Clock>(
         NextHead::Nothing => Turn::Ended(End::Done),
         NextHead::Refuse(status) => Turn::Ended(answer_refusal(
             alloc,
-            site,
             &mut link.output,
             clock,
             progress,

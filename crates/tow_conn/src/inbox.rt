@@ -1,3 +1,5 @@
+//! The bytes that were read and are not answered yet.
+
 ghost use Rattle.std.specs.Prelude.{◌≡◌, ◌≤◌, ◌<◌, [], length, drop, IfOk};
 ghost use Rattle.tow_link.specs.Data.{Rose};
 

@@ -1,3 +1,5 @@
+//! How far a connection has come, and what a turn comes to.
+
 use crate::inbox::Inbox;
 use tow_model::End;
 

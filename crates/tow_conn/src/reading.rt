@@ -1,3 +1,5 @@
+//! A turn that reads.
+
 ghost use Rattle.std.specs.Prelude.{◌≡◌, ◌≤◌, ◌<◌, ◌++◌, ◌⊎◌, true, length, IsTrue};
 ghost use Rattle.tow_link.specs.Data.{Rose};
 ghost use Rattle.tow_model.specs.declared.account.End.{End};

@@ -1,3 +1,5 @@
+//! What a site answers to a request.
+
 ghost use Rattle.std.specs.Prelude.{◌≡◌, ◌<◌, ℕ, [], false, true, IfOk, IsTrue};
 ghost use Rattle.tow_model.specs.Dates.{first_undated};
 ghost use Rattle.tow_semantics.specs.Sites.{run_of};

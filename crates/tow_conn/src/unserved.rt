@@ -1,17 +1,13 @@
+//! for now: what is here only until content is served. All of it goes then.
+
 ghost use Rattle.std.specs.Prelude.{◌≡◌};
-ghost use Rattle.tow_model.specs.Fields.{has};
 ghost use Rattle.tow_message.specs.Heads.{is_unserved};
 
-use tow_model::{Field, Framing, Request, Version};
+use tow_model::{Framing, Request, Version};
+use tow_text::has_field;
 
-/// Whether a field has the name, in any case.
-fn has_named(fields: &[Field], name: &[u8]) -> bool
-    ensures { result ≡ has name.now fields.now }
-{
-    fields
-        .iter()
-        .any(|field| field.name.as_slice().eq_ignore_ascii_case(name))
-}
+/// The number of the one connection there is; its peer is `LOCAL_PEER`.
+pub const ONLY_CONNECTION: u32 = 0;
 
 /// Whether the request asks for what a connection does not serve yet, and answers with 501: content, HTTP/1.0, or fields
 /// that decide on persistence or wait for leave to send content. Takes no memory.
@@ -20,6 +16,6 @@ pub fn is_unserved(request: &Request) -> bool
 {
     !matches!(request.framing, Framing::Empty)
         || matches!(request.version, Version::V10)
-        || has_named(request.fields.as_slice(), b"connection")
-        || has_named(request.fields.as_slice(), b"expect")
+        || has_field(request.fields.as_slice(), b"connection")
+        || has_field(request.fields.as_slice(), b"expect")
 }

@@ -1,7 +1,7 @@
 -- The definitions at work: contents, and an input from its first byte to its last.
 use Rattle.std.proofs.Common.{◌≡◌, ℕ, ◌<◌, Bool, true, false, true≢false, List, [], ◌∷◌, ◌++◌, length, All, Some, None, refl, sym, ap, ◌∙◌, arith, append_assoc, lit≤, lit<}
 use Rattle.std.specs.Prelude.{codes}
-use Rattle.std.specs.Str.{is_utf8, chars}
+use Rattle.std.specs.Str.{byte, is_utf8, chars}
 use Rattle.std.specs.Char.{is_ascii_hexdigit}
 use lib.Utf8.{encode}
 use Rattle.std.proofs.lemmas.List.Elements.{All-nil, All-cons, All-head}
@@ -10,14 +10,15 @@ use Rattle.httparse.proofs.OnLiterals.{httparse_on_literals}
 use Rattle.tow_model.specs.declared.request.Framing.TheVariants.{Chunked}
 use Rattle.tow_model.specs.declared.content.Content.{Content}
 use Rattle.tow_model.specs.declared.content.Content.TheVariants.{Whole, Bad, TooLong}
+use Rattle.tow_model.specs.declared.limits.TheConstants.{LOCAL_PEER}
 use Rattle.tow_message.specs.Heads.{request_of}
 use Rattle.tow_message.specs.FirstHead.{read_then, read_many, read_newline, span_of, head_of, first_head}
 use Rattle.tow_message.specs.Contents.{Chunk, IsChunk, IsSizeLine, IsContent, IsBad, print_chunks, print_chunk}
-use Rattle.tow_message.specs.Stream.{Reads, nothing, next}
+use Rattle.tow_message.specs.Stream.{ReadsStream, nothing, next}
 use Rattle.tow_message.proofs.FirstHeads.{finds_head}
 
 abbrev line : List ℕ → List ℕ
-line bytes = bytes ++ 13 ∷ 10 ∷ []
+line bytes = bytes ++ codes "\r\n"
 
 abbrev size_line : List ℕ → ChunkLine
 size_line digits = record { digits = digits; pad = []; extension = None }
@@ -43,11 +44,11 @@ abc = (
   three ∷ [],
   record {
     are = record {
-      each = All-cons IsChunk three [] (record { line = is_size_line 51 refl; some = lit< tt; size = refl }) (All-nil IsChunk);
+      each = All-cons IsChunk three [] (record { line = is_size_line (byte "3") refl; some = lit< tt; size = refl }) (All-nil IsChunk);
       fit = lit≤ tt;
     };
     last = size_line (codes "0");
-    is_last = record { line = is_size_line 48 refl; size = refl };
+    is_last = record { line = is_size_line (byte "0") refl; size = refl };
     trailer = [];
     is_trailer = record { lines_are = All-nil _; bytes_fit = lit≤ tt };
     printed = refl;
@@ -127,7 +128,7 @@ hi_found : first_head hi_input ≡ Some (hi_head, [])
 unfolding httparse_on_literals read_then read_many read_newline span_of head_of is_utf8 chars encode
 hi_found = refl
 
-hi_reads : Reads 2130706433 hi_input (next (request_of 2130706433 hi_head) [] nothing)
+hi_reads : ReadsStream LOCAL_PEER hi_input (next (request_of LOCAL_PEER hi_head) [] nothing)
 unfolding httparse_on_literals
 hi_reads = (
   [],

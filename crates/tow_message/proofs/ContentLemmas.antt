@@ -9,7 +9,8 @@ use Rattle.tow_model.specs.declared.request.Framing.{Framing}
 use Rattle.tow_model.specs.declared.request.Framing.TheVariants.{Empty, Fixed, Chunked}
 use Rattle.tow_model.specs.declared.content.Content.{Content}
 use Rattle.tow_model.specs.declared.content.Content.TheVariants.{Whole, Bad, TooLong}
-use Rattle.tow_message.specs.Contents.{most_content, IsSizeLine, Chunk, IsChunk, print_chunk, IsTrailerLine, print_trailer, print_chunks, bytes_of, AreChunks, IsChunked, IsTooMuch, IsContent, ContentIsOne}
+use Rattle.tow_model.specs.declared.limits.TheConstants.{MAX_CONTENT_LEN}
+use Rattle.tow_message.specs.Contents.{IsSizeLine, Chunk, IsChunk, print_chunk, IsTrailerLine, print_trailer, print_chunks, bytes_of, AreChunks, IsChunked, IsTooMuch, IsContent, ContentIsOne}
 
 -- ---- lists
 
@@ -39,10 +40,10 @@ same_front a b s t len e =
 
 -- the line ends the chunks of so many bytes: it is the last chunk's, or it is too much
 abbrev Stops : ℕ → ChunkLine → Type 0
-Stops sum l = (chunk_size l ≡ 0) ⊎ (most_content < sum + chunk_size l)
+Stops sum l = (chunk_size l ≡ 0) ⊎ (MAX_CONTENT_LEN < sum + chunk_size l)
 
 -- the line of a chunk does not
-chunk_goes_on : (base size sum more : ℕ) (l : ChunkLine) → base + sum ≤ most_content → sum ≡ size + more → 0 < size → chunk_size l ≡ size
+chunk_goes_on : (base size sum more : ℕ) (l : ChunkLine) → base + sum ≤ MAX_CONTENT_LEN → sum ≡ size + more → 0 < size → chunk_size l ≡ size
     → Stops (base + 0) l → ⊥
 chunk_goes_on base size sum more l fits is some same (inl none) = omega (arith, fits, is, some, same, none)
 chunk_goes_on base size sum more l fits is some same (inr over) = omega (arith, fits, is, some, same, over)
@@ -66,7 +67,7 @@ same_chunk c d l b = ap₂ chunk l b
 
 -- chunks, a line that stops them, and what follows: there is one way to read them
 chunks_one : (base : ℕ) (cs ds : List Chunk) (l m : ChunkLine) (t u : List ℕ) → All IsChunk cs → All IsChunk ds
-    → base + length (bytes_of cs) ≤ most_content → base + length (bytes_of ds) ≤ most_content → IsSizeLine l → IsSizeLine m
+    → base + length (bytes_of cs) ≤ MAX_CONTENT_LEN → base + length (bytes_of ds) ≤ MAX_CONTENT_LEN → IsSizeLine l → IsSizeLine m
     → Stops (base + length (bytes_of cs)) l → Stops (base + length (bytes_of ds)) m
     → print_chunks cs ++ (print_chunk_line l ++ t) ≡ print_chunks ds ++ (print_chunk_line m ++ u)
     → (cs ≡ ds) × (l ≡ m) × (t ≡ u)
@@ -95,7 +96,7 @@ chunks_one base (c ∷ cs) (d ∷ ds) l m t u all_c all_d fit_c fit_d is_l is_m 
     let n_c : base + length (c.bytes ++ bytes_of cs) ≡ (base + length c.bytes) + length (bytes_of cs) = omega (arith, length-append c.bytes (bytes_of cs)) in
     let n_d : base + length (d.bytes ++ bytes_of ds) ≡ (base + length c.bytes) + length (bytes_of ds) = omega (arith, length-append d.bytes (bytes_of ds), len) in
     let later = chunks_one (base + length c.bytes) cs ds l m t u (All-tail IsChunk c cs all_c) (All-tail IsChunk d ds all_d)
-    (subst (λ (n : ℕ). n ≤ most_content) n_c fit_c) (subst (λ (n : ℕ). n ≤ most_content) n_d fit_d) is_l is_m
+    (subst (λ (n : ℕ). n ≤ MAX_CONTENT_LEN) n_c fit_c) (subst (λ (n : ℕ). n ≤ MAX_CONTENT_LEN) n_d fit_d) is_l is_m
     (subst (λ (n : ℕ). Stops n l) n_c stop_l) (subst (λ (n : ℕ). Stops n m) n_d stop_m) rest in
     (ap (λ (x : Chunk). x ∷ cs) (same_chunk c d lines.0 bytes.0) ∙ ap (λ (xs : List Chunk). d ∷ xs) later.0, later.1, later.2)
 
@@ -169,7 +170,7 @@ chains_one : (input : List ℕ) (cs ds : List Chunk) (l m : ChunkLine) (t u : Li
     → (cs ≡ ds) × (l ≡ m) × (t ≡ u)
 chains_one input cs ds l m t u one two =
     chunks_one 0 cs ds l m t u one.are.each two.are.each
-    (subst (λ (n : ℕ). n ≤ most_content) (zero_plus _) one.are.fit) (subst (λ (n : ℕ). n ≤ most_content) (zero_plus _) two.are.fit)
+    (subst (λ (n : ℕ). n ≤ MAX_CONTENT_LEN) (zero_plus _) one.are.fit) (subst (λ (n : ℕ). n ≤ MAX_CONTENT_LEN) (zero_plus _) two.are.fit)
     one.is_line two.is_line
     (subst (λ (n : ℕ). Stops n l) (zero_plus _) one.stops) (subst (λ (n : ℕ). Stops n m) (zero_plus _) two.stops)
     (sym one.joined ∙ two.joined)
@@ -193,11 +194,11 @@ chain_of_over input text rest chunks is e = record {
 }
 
 -- a last chunk's line is not too much
-not_both : (n size : ℕ) → size ≡ 0 → n ≤ most_content → most_content < n + size → ⊥
+not_both : (n size : ℕ) → size ≡ 0 → n ≤ MAX_CONTENT_LEN → MAX_CONTENT_LEN < n + size → ⊥
 not_both n size none fits over = omega (arith, none, fits, over)
 
 whole_and_over : (input : List ℕ) (cs ds : List Chunk) (l m : ChunkLine) (t u : List ℕ) → Chain input cs l t → Chain input ds m u
-    → chunk_size l ≡ 0 → most_content < length (bytes_of ds) + chunk_size m → ⊥
+    → chunk_size l ≡ 0 → MAX_CONTENT_LEN < length (bytes_of ds) + chunk_size m → ⊥
 whole_and_over input cs ds l m t u one two none over =
     let same = chains_one input cs ds l m t u one two in
     not_both (length (bytes_of ds)) (chunk_size m) (sym (ap chunk_size same.1) ∙ none) two.are.fit over

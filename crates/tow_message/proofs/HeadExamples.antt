@@ -1,5 +1,5 @@
 -- The definitions at work: heads.
-use Rattle.std.proofs.Common.{◌≡◌, ℕ, Bool, true, false, List, [], ◌∷◌, ◌++◌, Option, Some, None, refl}
+use Rattle.std.proofs.Common.{◌≡◌, ℕ, Bool, true, false, List, [], ◌++◌, Option, Some, None, refl}
 use Rattle.std.specs.Prelude.{option_map, codes}
 use Rattle.std.specs.Str.{is_utf8, chars}
 use lib.Utf8.{encode}
@@ -8,12 +8,13 @@ use Rattle.percent_encoding.specs.Percent.{percent_decode}
 use Rattle.tow_model.specs.declared.request.Framing.{Framing}
 use Rattle.tow_model.specs.declared.request.Framing.TheVariants.{Fixed, Chunked}
 use Rattle.tow_model.specs.declared.request.Request.{Request}
+use Rattle.tow_model.specs.declared.limits.TheConstants.{LOCAL_PEER}
 use Rattle.tow_message.specs.Heads.{refusal, connection_refusal, request_of}
 use Rattle.tow_message.specs.FirstHead.{read_then, read_many, read_newline, span_of, head_of, first_head}
 
--- CR LF behind some bytes
+-- the bytes and their line end
 abbrev line : List ℕ → List ℕ
-line bytes = bytes ++ 13 ∷ 10 ∷ []
+line bytes = bytes ++ codes "\r\n"
 
 abbrev host_line : List ℕ
 host_line = line (codes "Host: a")
@@ -25,7 +26,7 @@ abbrev answered_in : List ℕ → Option (Option ℕ)
 answered_in input = option_map (λ x. connection_refusal x.0) (first_head input)
 
 abbrev request_in : List ℕ → Option Request
-request_in input = option_map (λ x. request_of 2130706433 x.0) (first_head input)
+request_in input = option_map (λ x. request_of LOCAL_PEER x.0) (first_head input)
 
 abbrev waiting : Request → Bool × Framing
 waiting q = (q.expects, q.framing)

@@ -11,7 +11,7 @@ use Rattle.tow_model.specs.declared.content.Content.TheVariants.{Whole, Bad, Too
 use Rattle.tow_message.specs.Heads.{HasHead, connection_refusal, request_of}
 use Rattle.tow_message.specs.FirstHead.{Got, first_head}
 use Rattle.tow_message.specs.Contents.{IsContent, HasContent, Gives}
-use Rattle.tow_message.specs.Stream.{Stream, nothing, refused, last, next, HasRequest, Reads, StreamIsThere}
+use Rattle.tow_message.specs.Stream.{Stream, nothing, refused, last, next, HasRequest, ReadsStream, StreamIsThere}
 use Rattle.tow_message.proofs.FirstHeads.{finds_head}
 use Rattle.tow_message.proofs.StreamLemmas.{request_split}
 
@@ -86,8 +86,8 @@ some_is_none o x a b = absurd (cc)
 -- ---- streams
 
 with_request : (peer n : ℕ) (input : List ℕ) (h : RequestHead) (rest : List ℕ) → HasHead input h rest → length input ≤ suc n
-    → ((after : List ℕ) → length after ≤ n → ((s : Stream) → ¬ (Reads peer after s)) → ⊥)
-    → (o : Option ℕ) → connection_refusal h ≡ o → ((s : Stream) → ¬ (Reads peer input s)) → ⊥
+    → ((after : List ℕ) → length after ≤ n → ((s : Stream) → ¬ (ReadsStream peer after s)) → ⊥)
+    → (o : Option ℕ) → connection_refusal h ≡ o → ((s : Stream) → ¬ (ReadsStream peer input s)) → ⊥
 with_request peer n input h rest has fits later (Some status) is none =
     none (refused status) (inl (record { head = h; rest = rest; reads = has; refused = is }))
 with_request peer n input h rest has fits later None is none =
@@ -108,7 +108,7 @@ with_request peer n input h rest has fits later None is none =
 
 -- where there is no head the input is blank or refused
 by_first : (peer : ℕ) (input : List ℕ) (o : Got RequestHead) → first_head input ≡ o
-    → ((x : RequestHead × List ℕ) → first_head input ≡ Some x → ⊥) → ((s : Stream) → ¬ (Reads peer input s)) → ⊥
+    → ((x : RequestHead × List ℕ) → first_head input ≡ Some x → ⊥) → ((s : Stream) → ¬ (ReadsStream peer input s)) → ⊥
 by_first peer input None is found none =
     none (refused 400) (inr (
       record {
@@ -119,7 +119,7 @@ by_first peer input None is found none =
     ))
 by_first peer input (Some x) is found none = found x is
 
-up_to : (peer n : ℕ) (input : List ℕ) → length input ≤ n → ((s : Stream) → ¬ (Reads peer input s)) → ⊥
+up_to : (peer n : ℕ) (input : List ℕ) → length input ≤ n → ((s : Stream) → ¬ (ReadsStream peer input s)) → ⊥
 up_to peer zero input fits none =
     by_first peer input (first_head input) refl
     (λ x is. let long = head_is_long input x.0 x.1 ((finds_head input x.0 x.1).1 is) in absurd (omega (arith, long, fits))) none

@@ -11,7 +11,7 @@ use Rattle.tow_model.specs.declared.content.Content.{Content}
 use Rattle.tow_model.specs.declared.content.Content.TheVariants.{Whole, Bad, TooLong}
 use Rattle.tow_message.specs.Heads.{HasHead, connection_refusal, request_of}
 use Rattle.tow_message.specs.Contents.{HasContent, IsShort, IsBad, Gives}
-use Rattle.tow_message.specs.Stream.{Stream, nothing, refused, last, next, IsBlank, IsNoRequest, IsRefused, HasRequest, IsWhole, Reads, StreamIsOne}
+use Rattle.tow_message.specs.Stream.{Stream, nothing, refused, last, next, IsBlank, IsNoRequest, IsRefused, HasRequest, IsWhole, ReadsStream, StreamIsOne}
 use Rattle.tow_message.proofs.FirstHeads.{head_is_one}
 use Rattle.tow_message.proofs.ContentLemmas.{content_is_one}
 
@@ -171,7 +171,7 @@ bytes_of_whole x y e = ap bytes_in e
 pub stream_is_one : (peer : ℕ) (input : List ℕ) → StreamIsOne peer input
 stream_is_one peer input s t one two = by s t input one two
   where
-    by : (s t : Stream) (input : List ℕ) → Reads peer input s → Reads peer input t → s ≡ t
+    by : (s t : Stream) (input : List ℕ) → ReadsStream peer input s → ReadsStream peer input t → s ≡ t
     by nothing nothing input a b = refl
     by nothing (refused n) input a b = absurd (blank_is_not_refused input n a b)
     by nothing (last q c) input a b = absurd (blank_has_none input _ _ a b.1.reads)
@@ -201,5 +201,5 @@ stream_is_one peer input s t one two = by s t input one two
         let moved : HasContent p.framing b.0 (Whole x) a.1 =
         subst (λ (r : List ℕ). HasContent p.framing r (Whole x) a.1) same.1 (subst (λ (r : Request). HasContent r.framing a.0 (Whole x) a.1) same.0 a.3) in
         let contents = content_is_one p.framing b.0 (Whole x) (Whole y) a.1 b.1 moved b.3 in
-        let later = by s t b.1 (subst (λ (r : List ℕ). Reads peer r s) contents.1 a.4) b.4 in
+        let later = by s t b.1 (subst (λ (r : List ℕ). ReadsStream peer r s) contents.1 a.4) b.4 in
         ap (λ r. next r x s) same.0 ∙ ap (λ l. next p l s) (bytes_of_whole x y contents.0) ∙ ap (λ k. next p y k) later

@@ -7,16 +7,13 @@ use Rattle.tow_model.specs.declared.request.Framing.{Framing}
 use Rattle.tow_model.specs.declared.request.Framing.TheVariants.{Empty, Fixed, Chunked}
 use Rattle.tow_model.specs.declared.content.Content.{Content}
 use Rattle.tow_model.specs.declared.content.Content.TheVariants.{Whole, Bad, TooLong}
+use Rattle.tow_model.specs.declared.limits.TheConstants.{MAX_CHUNK_LINE_LEN, MAX_CONTENT_LEN, MAX_TRAILER_LEN}
 
--- the most bytes of a content
-abbrev pub most_content : ℕ
-most_content = 1048576
-
--- a chunk's first line: httparse's, with at most 15 digits, in at most 256 bytes with its line end
+-- a chunk's first line: httparse's, with at most 15 digits, in not too many bytes with its line end
 pub record IsSizeLine (l : ChunkLine) : Type 0 where
   pub line : IsChunkLine l
   pub digits_fit : length l.digits ≤ 15
-  pub bytes_fit : length (print_chunk_line l) ≤ 256
+  pub bytes_fit : length (print_chunk_line l) ≤ MAX_CHUNK_LINE_LEN
 
 pub record Chunk : Type 0 where
   pub line : ChunkLine
@@ -47,7 +44,7 @@ print_trailer lines = flat_map (λ line. line ++ crlf_bytes) lines ++ crlf_bytes
 
 pub record IsTrailer (lines : List (List ℕ)) : Type 0 where
   pub lines_are : All IsTrailerLine lines
-  pub bytes_fit : length (print_trailer lines) ≤ 8192
+  pub bytes_fit : length (print_trailer lines) ≤ MAX_TRAILER_LEN
 
 abbrev pub print_chunks : List Chunk → List ℕ
 print_chunks chunks = flat_map print_chunk chunks
@@ -58,7 +55,7 @@ bytes_of chunks = flat_map (λ c. c.bytes) chunks
 -- chunks that are not too long together
 pub record AreChunks (chunks : List Chunk) : Type 0 where
   pub each : All IsChunk chunks
-  pub fit : length (bytes_of chunks) ≤ most_content
+  pub fit : length (bytes_of chunks) ≤ MAX_CONTENT_LEN
 
 -- The text is chunks, a last chunk and a trailer part.
 pub record IsChunked (text : List ℕ) (chunks : List Chunk) : Type 0 where
@@ -74,7 +71,7 @@ pub record IsTooMuch (text : List ℕ) (chunks : List Chunk) : Type 0 where
   pub are : AreChunks chunks
   pub line : ChunkLine
   pub is_line : IsSizeLine line
-  pub over : most_content < length (bytes_of chunks) + chunk_size line
+  pub over : MAX_CONTENT_LEN < length (bytes_of chunks) + chunk_size line
   pub printed : text ≡ print_chunks chunks ++ print_chunk_line line
 
 -- The text is the whole content of this framing, which gives this; too long content is seen where it passes the limit.
@@ -82,8 +79,8 @@ abbrev pub IsContent : Framing → List ℕ → Content → Type 0
 IsContent Empty text (Whole bytes) = (text ≡ []) × (bytes ≡ [])
 IsContent Empty text TooLong = ⊥
 IsContent Empty text Bad = ⊥
-IsContent (Fixed n) text (Whole bytes) = (n ≤ most_content) × (length text ≡ n) × (bytes ≡ text)
-IsContent (Fixed n) text TooLong = (most_content < n) × (text ≡ [])
+IsContent (Fixed n) text (Whole bytes) = (n ≤ MAX_CONTENT_LEN) × (length text ≡ n) × (bytes ≡ text)
+IsContent (Fixed n) text TooLong = (MAX_CONTENT_LEN < n) × (text ≡ [])
 IsContent (Fixed n) text Bad = ⊥
 IsContent Chunked text (Whole bytes) = (chunks : List Chunk) × IsChunked text chunks × (bytes ≡ bytes_of chunks)
 IsContent Chunked text TooLong = (chunks : List Chunk) × IsTooMuch text chunks

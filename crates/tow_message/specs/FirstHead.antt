@@ -1,9 +1,10 @@
 -- The first request head of some bytes, as a function.
 use Rattle.std.specs.Prelude.{◌≡◌, ℕ, zero, suc, ◌+◌, Bool, ◌&&◌, ◌==◌, nat_le, List, [], ◌∷◌, length, take, drop, Option, Some, None, if◌then◌else◌, bytes_eq, ◌↔◌}
-use Rattle.std.specs.Str.{is_utf8}
+use Rattle.std.specs.Str.{byte, is_utf8}
 use Rattle.httparse.specs.Grammar.{LineEnd, crlf, lf, is_token_byte, is_uri_byte, is_value_byte, Field, RequestHead, print_version}
 use Rattle.httparse.specs.Pieces.{is_newline}
-use Rattle.tow_message.specs.Heads.{HasHead}
+use Rattle.tow_model.specs.declared.limits.TheConstants.{MAX_HEAD_FIELDS, MAX_HEAD_LEN}
+use Rattle.tow_message.specs.Heads.{HasHead, line_feed, carriage_return}
 
 -- a value and the text after it
 abbrev pub Got : Type 0 → Type 0
@@ -29,9 +30,10 @@ read_many p (suc n) text = after text (p text) (read_many p n)
 -- CR LF or LF
 unfoldable pub read_newline : List ℕ → Got LineEnd
 read_newline [] = None
-read_newline (b ∷ []) = if b == 10 then Some (lf, []) else None
+read_newline (b ∷ []) = if b == line_feed then Some (lf, []) else None
 read_newline (b ∷ c ∷ text) =
-    if b == 10 then Some (lf, c ∷ text) else (if (b == 13) && (c == 10) then Some (crlf, text) else None)
+    if b == line_feed then Some (lf, c ∷ text)
+    else (if (b == carriage_return) && (c == line_feed) then Some (crlf, text) else None)
 
 -- the bytes at the front that pass the test
 unfoldable pub span_of : (ℕ → Bool) → List ℕ → List ℕ × List ℕ
@@ -61,7 +63,7 @@ target_end None = None
 target_end (Some x) = if is_utf8 x.0 then Some x else None
 
 abbrev pub read_target : List ℕ → Got (List ℕ)
-read_target text = target_end (read_word is_uri_byte 32 text)
+read_target text = target_end (read_word is_uri_byte (byte " ") text)
 
 -- a version of this number
 abbrev pub read_minor : ℕ → List ℕ → Got ℕ
@@ -86,7 +88,7 @@ abbrev pub field_of : (List ℕ × (List ℕ × LineEnd)) × List ℕ → Field 
 field_of x = (record { name = x.0.0; raw = x.0.1.0; end = x.0.1.1 }, x.1)
 
 abbrev pub read_field : List ℕ → Got Field
-read_field text = bind (read_then (read_word is_token_byte 58) read_text text) (λ x. Some (field_of x))
+read_field text = bind (read_then (read_word is_token_byte (byte ":")) read_text text) (λ x. Some (field_of x))
 
 -- the field lines and the empty line after them
 abbrev pub section_end : List Field × List ℕ → Got (List Field × LineEnd)
@@ -101,7 +103,7 @@ Start = List LineEnd × (List ℕ × (List ℕ × (ℕ × LineEnd)))
 
 abbrev pub read_start : List ℕ → Got Start
 read_start text =
-    read_then read_blank (read_then (read_word is_token_byte 32) (read_then read_target (read_then read_version read_newline))) text
+    read_then read_blank (read_then (read_word is_token_byte (byte " ")) (read_then read_target (read_then read_version read_newline))) text
 
 abbrev pub head_from : (Start × (List Field × LineEnd)) × List ℕ → RequestHead × List ℕ
 head_from x = (
@@ -124,7 +126,7 @@ head_of bytes = bind (read_then read_start read_section bytes) (λ x. Some (head
 -- the head, where it is within the server's bounds
 abbrev pub within : ℕ → Got RequestHead → Got RequestHead
 within len None = None
-within len (Some x) = if nat_le len (length x.1 + 65536) && nat_le (length x.0.fields) 200 then Some x else None
+within len (Some x) = if nat_le len (length x.1 + MAX_HEAD_LEN) && nat_le (length x.0.fields) MAX_HEAD_FIELDS then Some x else None
 
 -- The head that the input begins with, and what follows it.
 abbrev pub first_head : List ℕ → Got RequestHead

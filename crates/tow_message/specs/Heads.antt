@@ -3,6 +3,7 @@ use Rattle.std.specs.Prelude.{◌≡◌, ℕ, ◌+◌, ◌≤◌, ◌^◌, min, 
 use Rattle.std.specs.List.{list_any, list_all, last_or}
 use Rattle.std.specs.Option.{option_map_or}
 use Rattle.std.specs.Char.{is_ascii_digit}
+use Rattle.std.specs.Str.{byte}
 use Rattle.std.specs.Str.Parse.{digits_value}
 use Rattle.httparse.specs.Grammar.{RequestHead, ReadsRequest, field_value}
 use Rattle.http_header.specs.Token.{lowercase}
@@ -12,15 +13,23 @@ use Rattle.tow_model.specs.declared.request.Version.TheVariants.{V10, V11}
 use Rattle.tow_model.specs.declared.request.Framing.{Framing}
 use Rattle.tow_model.specs.declared.request.Framing.TheVariants.{Empty, Fixed, Chunked}
 use Rattle.tow_model.specs.declared.request.Request.{Request}
+use Rattle.tow_model.specs.declared.limits.TheConstants.{MAX_HEAD_FIELDS, MAX_HEAD_LEN}
 use Rattle.tow_model.specs.Texts.{Text, is_empty}
 use Rattle.tow_model.specs.Fields.{field, values_of, has, elements}
 use Rattle.tow_model.specs.Paths.{Place, place_of}
 
+-- the bytes CR and LF, of which line ends are made (RFC 9112, section 2.2)
+abbrev pub carriage_return : ℕ
+carriage_return = byte "\r"
+
+abbrev pub line_feed : ℕ
+line_feed = byte "\n"
+
 -- The input begins with the head h of httparse's grammar (RFC 9112, section 2.1), within the server's bounds, and rest follows.
 pub record HasHead (input : List ℕ) (h : RequestHead) (rest : List ℕ) : Type 0 where
   pub reads : ReadsRequest input h rest
-  pub bytes_fit : length input ≤ length rest + 65536
-  pub fields_fit : length h.fields ≤ 200
+  pub bytes_fit : length input ≤ length rest + MAX_HEAD_LEN
+  pub fields_fit : length h.fields ≤ MAX_HEAD_FIELDS
 
 -- no front of the input is a head
 abbrev pub HasNoHead : List ℕ → Type 0
@@ -34,9 +43,9 @@ fields_of h = map (λ f. field f.name (field_value f)) h.fields
 -- ---- refusals
 
 -- HTTP/1.1 without a Host line, or more than one in either version (RFC 9112, section 3.2)
-abbrev pub has_wrong_host : RequestHead → Bool
-has_wrong_host h =
-    let count = length (values_of (codes "host") (fields_of h)) in nat_lt 1 count || (h.minor == 1 && count == 0)
+abbrev pub has_wrong_host : ℕ → List Field → Bool
+has_wrong_host minor fields =
+    let count = length (values_of (codes "host") fields) in nat_lt 1 count || (minor == 1 && count == 0)
 
 -- the target is of no form that is served (RFC 9112, section 3.2)
 abbrev pub has_wrong_target : RequestHead → Bool
@@ -65,13 +74,18 @@ abbrev pub ends_in_chunked : List Text → Bool
 ends_in_chunked codings = option_map_or (bytes_eq (codes "chunked")) (last_or None codings) false
 
 -- Transfer-Encoding stands in HTTP/1.0, or its last coding is not `chunked` (RFC 9112, sections 6.1 and 6.3)
-abbrev pub has_wrong_coding : RequestHead → Bool
-has_wrong_coding h =
-    has (codes "transfer-encoding") (fields_of h) && (h.minor == 0 || not (ends_in_chunked (codings_of (fields_of h))))
+abbrev pub has_wrong_coding : ℕ → List Field → Bool
+has_wrong_coding minor fields =
+    has (codes "transfer-encoding") fields && (minor == 0 || not (ends_in_chunked (codings_of fields)))
+
+-- the version and the fields are wrong, whatever the target is
+abbrev pub has_wrong_fields : ℕ → List Field → Bool
+has_wrong_fields minor fields =
+    has_wrong_host minor fields || has_wrong_length fields || has_wrong_coding minor fields
 
 -- the head is no request that HTTP allows here
 abbrev pub is_wrong : RequestHead → Bool
-is_wrong h = has_wrong_host h || has_wrong_target h || has_wrong_length (fields_of h) || has_wrong_coding h
+is_wrong h = has_wrong_fields h.minor (fields_of h) || has_wrong_target h
 
 -- there is more than one coding
 abbrev pub is_coded : List Field → Bool
@@ -83,8 +97,11 @@ refusal h = if is_wrong h then Some 400 else (if is_coded (fields_of h) then Som
 
 -- ---- requests
 
+abbrev pub version_by : ℕ → Version
+version_by minor = if minor == 1 then V11 else V10
+
 abbrev pub version_of : RequestHead → Version
-version_of h = if h.minor == 1 then V11 else V10
+version_of h = version_by h.minor
 
 -- a length above 2^63 counts as 2^63
 abbrev pub framing_by : List Text → Framing
@@ -138,7 +155,7 @@ request_of peer h =
       peer = peer;
     }
 
--- ---- what a connection does not serve yet
+-- ---- for now: what a connection does not serve yet
 
 abbrev pub is_framed : Framing → Bool
 is_framed Empty = false

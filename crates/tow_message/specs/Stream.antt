@@ -4,7 +4,8 @@ use Rattle.httparse.specs.Grammar.{RequestHead}
 use Rattle.tow_model.specs.declared.request.Request.{Request}
 use Rattle.tow_model.specs.declared.content.Content.{Content}
 use Rattle.tow_model.specs.declared.content.Content.TheVariants.{Whole, Bad, TooLong}
-use Rattle.tow_message.specs.Heads.{HasHead, HasNoHead, IsRefusedBy, connection_refusal, request_of}
+use Rattle.tow_model.specs.declared.limits.TheConstants.{MAX_HEAD_LEN}
+use Rattle.tow_message.specs.Heads.{HasHead, HasNoHead, line_feed, carriage_return, IsRefusedBy, connection_refusal, request_of}
 use Rattle.tow_message.specs.Contents.{HasContent, Gives}
 
 -- nothing more is asked; a head is refused with a status, or there is none; the last request, whose content is not whole;
@@ -15,10 +16,10 @@ pub data Stream : Type 0 where
   last : Request → Option Content → Stream
   next : Request → List ℕ → Stream → Stream
 
--- fewer than 65,536 bytes, each CR or LF
+-- CR and LF alone, in fewer bytes than a head may have
 pub record IsBlank (input : List ℕ) : Type 0 where
-  pub bytes : All (λ b. IsTrue (b == 13 || b == 10)) input
-  pub few : length input < 65536
+  pub bytes : All (λ b. IsTrue (b == carriage_return || b == line_feed)) input
+  pub few : length input < MAX_HEAD_LEN
 
 -- the input begins with no head, and is not blank
 pub record IsNoRequest (input : List ℕ) : Type 0 where
@@ -43,19 +44,19 @@ IsWhole (Some TooLong) = ⊥
 IsWhole (Some (Whole bytes)) = Unit {0}
 
 -- The input of this peer is read as the stream.
-abbrev pub Reads : ℕ → List ℕ → Stream → Type 0
-Reads peer input nothing = IsBlank input
-Reads peer input (refused status) = IsRefused input status ⊎ (IsNoRequest input × (status ≡ 400))
-Reads peer input (last q content) =
+abbrev pub ReadsStream : ℕ → List ℕ → Stream → Type 0
+ReadsStream peer input nothing = IsBlank input
+ReadsStream peer input (refused status) = IsRefused input status ⊎ (IsNoRequest input × (status ≡ 400))
+ReadsStream peer input (last q content) =
     (rest : List ℕ) × HasRequest peer input q rest × Gives q.framing rest content × ¬ (IsWhole content)
-Reads peer input (next q bytes stream) =
+ReadsStream peer input (next q bytes stream) =
     (rest : List ℕ) × (after : List ℕ)
-    × HasRequest peer input q rest × HasContent q.framing rest (Whole bytes) after × Reads peer after stream
+    × HasRequest peer input q rest × HasContent q.framing rest (Whole bytes) after × ReadsStream peer after stream
 
 -- an input is read as one stream at most
 abbrev pub StreamIsOne : ℕ → List ℕ → Type 0
-StreamIsOne peer input = (s t : Stream) → Reads peer input s → Reads peer input t → s ≡ t
+StreamIsOne peer input = (s t : Stream) → ReadsStream peer input s → ReadsStream peer input t → s ≡ t
 
 -- there is no input that is read as no stream
 abbrev pub StreamIsThere : ℕ → List ℕ → Type 0
-StreamIsThere peer input = ¬ ((s : Stream) → ¬ (Reads peer input s))
+StreamIsThere peer input = ¬ ((s : Stream) → ¬ (ReadsStream peer input s))

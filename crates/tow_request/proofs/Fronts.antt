@@ -6,6 +6,7 @@ use Rattle.httparse.specs.Spans.{IsRequestAt, IsRequestWithin, RequestOverflows,
 use Rattle.httparse.specs.declared.spans.HeaderSpan.{HeaderSpan}
 use Rattle.httparse.specs.declared.spans.RequestSpans.{RequestSpans}
 use Rattle.httparse.proofs.GrammarLemmas.{ReadsRequest-append}
+use Rattle.tow_model.specs.declared.limits.TheConstants.{MAX_HEAD_FIELDS, MAX_HEAD_LEN}
 use Rattle.tow_model.specs.declared.request.Request.{Request}
 use Rattle.tow_message.specs.Heads.{HasHead, HasNoHead, IsRefusedBy, refusal, request_of}
 use Rattle.tow_message.proofs.FirstHeads.{head_is_one}
@@ -27,10 +28,10 @@ front_has input used h has = record {
 pub no_head : (input : List ℕ) → HasNoRequest input → HasNoHead input
 no_head input none h rest has = none h rest has.reads
 
-pub no_head_in_room : (input : List ℕ) → RequestOverflows 200 input → HasNoHead input
+pub no_head_in_room : (input : List ℕ) → RequestOverflows MAX_HEAD_FIELDS input → HasNoHead input
 no_head_in_room input over h rest has =
     let whole : ReadsRequest (input ++ []) h rest = rw append-nil has.reads in
-    let more : 200 < length h.fields = over [] h rest whole in
+    let more : MAX_HEAD_FIELDS < length h.fields = over [] h rest whole in
     absurd (omega (arith, more, has.fields_fit))
 
 pub never_now : (input : List ℕ) → NeverHasRequest input → HasNoRequest input
@@ -41,7 +42,7 @@ finds_none input peer answer none q used fits is = absurd (none is.head (drop us
 
 -- what the parser read is a whole head
 pub whole_head : (input : List ℕ) (headers : List HeaderSpan) (r : RequestSpans) (h : RequestHead)
-    → length input ≤ 65536 → length headers ≤ 200 → IsRequestWithin input headers r → IsRequestAt input headers r h
+    → length input ≤ MAX_HEAD_LEN → length headers ≤ MAX_HEAD_FIELDS → IsRequestWithin input headers r → IsRequestAt input headers r h
     → HasHead (take r.len input) h []
 whole_head input headers r h small room within at =
     let written : length (take r.headers headers) ≡ length h.fields =

@@ -1,31 +1,30 @@
--- The tests of a head that look at its version and its fields alone.
-use Rattle.std.specs.Prelude.{◌≡◌, ℕ, Bool, not, ◌&&◌, ◌||◌, ◌==◌, nat_lt, List, length, codes, if◌then◌else◌}
+-- Why a head is refused, by its version, its fields and its target, and with which status.
+use Rattle.std.specs.Prelude.{◌≡◌, ℕ, not, nat_lt, List, length, Option, Some, None, is_some, if◌then◌else◌}
 use Rattle.tow_model.specs.declared.request.Field.{Field}
-use Rattle.tow_model.specs.declared.request.Version.{Version}
-use Rattle.tow_model.specs.declared.request.Version.TheVariants.{V10, V11}
 use Rattle.tow_model.specs.Texts.{Text}
-use Rattle.tow_model.specs.Fields.{values_of, has}
-use Rattle.tow_message.specs.Heads.{has_wrong_length, codings_of, ends_in_chunked}
 use Rattle.tow_model.specs.Paths as paths
-use Rattle.tow_request.specs.declared.requests.Place.{Place}
+use Rattle.tow_message.specs.Heads.{has_wrong_host, has_wrong_length, has_wrong_coding, ends_in_chunked, is_coded}
 use Rattle.tow_request.specs.declared.codings.Codings.{Codings}
+use Rattle.tow_request.specs.declared.refusals.Refusal.{Refusal}
+use Rattle.tow_request.specs.declared.refusals.Refusal.TheVariants.{NoHead, WrongHost, WrongLength, WrongCoding, WrongTarget, CodedContent}
+use Rattle.tow_request.specs.declared.requests.Place.{Place}
 
--- there is no Host line in HTTP/1.1, or there are more in either version (RFC 9112, section 3.2)
-abbrev pub wrong_hosts : ℕ → ℕ → Bool
-wrong_hosts minor count = nat_lt 1 count || (minor == 1 && count == 0)
+-- the first rule that the head breaks
+abbrev pub refusal_by : ℕ → List Field → Option paths.Place → Option Refusal
+refusal_by minor fields place =
+    if has_wrong_host minor fields then Some WrongHost
+    else (if has_wrong_length fields then Some WrongLength
+    else (if has_wrong_coding minor fields then Some WrongCoding
+    else (if not (is_some place) then Some WrongTarget
+    else (if is_coded fields then Some CodedContent else None))))
 
--- Transfer-Encoding stands in HTTP/1.0, or its last coding is not `chunked` (RFC 9112, sections 6.1 and 6.3)
-abbrev pub wrong_codings : ℕ → List Field → Bool
-wrong_codings minor fields =
-    has (codes "transfer-encoding") fields && (minor == 0 || not (ends_in_chunked (codings_of fields)))
-
--- the head is wrong, whatever its target is
-abbrev pub wrong_fields : ℕ → List Field → Bool
-wrong_fields minor fields =
-    wrong_hosts minor (length (values_of (codes "host") fields)) || has_wrong_length fields || wrong_codings minor fields
-
-abbrev pub version_by : ℕ → Version
-version_by minor = if minor == 1 then V11 else V10
+abbrev pub status_of : Refusal → ℕ
+status_of NoHead = 400
+status_of WrongHost = 400
+status_of WrongLength = 400
+status_of WrongCoding = 400
+status_of WrongTarget = 400
+status_of CodedContent = 501
 
 -- the place that a target was read as
 abbrev pub place_by : Place → paths.Place

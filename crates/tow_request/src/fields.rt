@@ -9,14 +9,15 @@ ghost use Rattle.tow_request.specs.Lines.{field_at, fields_at};
 
 use httparse::spans::HeaderSpan;
 use std::alloc::{AllocError, Global};
-use tow_model::{Bytes, Field, List};
+use tow_model::{Field, List};
+use tow_text::{copied_field, is_field_name};
 
 /// Whether a line has the name, in any case.
 pub(crate) fn has_name(bytes: &[u8], line: HeaderSpan, name: &[u8]) -> bool
     requires { IsHeaderWithin (length bytes.now) line }
     ensures { result ≡ is_named name.now (field_at bytes.now line) }
 {
-    line.name.of(bytes).eq_ignore_ascii_case(name)
+    is_field_name(line.name.of(bytes), name)
 }
 
 /// How many lines have the name, in any case.
@@ -54,7 +55,7 @@ fn first_named<'a>(bytes: &'a [u8], lines: &[HeaderSpan], name: &[u8]) -> Option
     None
 }
 
-/// The value of the line that has the name, in any case, where there is just one.
+/// The value of the line that has the name, in any case, if there is just one.
 pub(crate) fn only_named<'a>(bytes: &'a [u8], lines: &[HeaderSpan], name: &[u8]) -> Option<&'a [u8]>
     requires { All (IsHeaderWithin (length bytes.now)) lines.now }
     ensures { option_copied result ≡ model.only (values_of name.now (fields_at bytes.now lines.now)) }
@@ -63,16 +64,6 @@ pub(crate) fn only_named<'a>(bytes: &'a [u8], lines: &[HeaderSpan], name: &[u8])
         return None;
     }
     first_named(bytes, lines, name)
-}
-
-/// Copies the name and the value of a line.
-fn copied_field(alloc: Global, bytes: &[u8], line: HeaderSpan) -> Result<Field, AllocError>
-    requires { IsHeaderWithin (length bytes.now) line }
-    ensures { IfOk result (λ f. f ≡ field_at bytes.now line) }
-{
-    let name = Bytes::from_slice(alloc, line.name.of(bytes))?;
-    let value = Bytes::from_slice(alloc, line.value.of(bytes))?;
-    Ok(Field { name, value })
 }
 
 /// Copies the lines, in their order.
@@ -86,7 +77,7 @@ pub(crate) fn copied_fields(
 {
     let mut fields = Vec::with_capacity(alloc, lines.len())?;
     for line in lines {
-        fields.push(copied_field(alloc, bytes, *line)?)?;
+        fields.push(copied_field(alloc, line.name.of(bytes), line.value.of(bytes))?)?;
     }
     Ok(List::from_vec(fields))
 }

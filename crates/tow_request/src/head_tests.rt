@@ -2,13 +2,12 @@
 
 ghost use Rattle.std.specs.Prelude.{◌≤◌, length};
 
+use crate::refusals::Refusal;
 use crate::{NextHead, next_head};
 use std::alloc::Global;
 use std::test::Fail;
+use tow_model::limits::{LOCAL_PEER, MAX_HEAD_LEN};
 use tow_model::{Bytes, Framing, Request, Version};
-
-/// The address 127.0.0.1.
-const PEER: u32 = 2130706433;
 
 /// Heads that are refused, with their statuses.
 const REFUSED: [(&str, u16); 27] = [
@@ -101,16 +100,16 @@ fn heads_are_refused(rt: HostRuntime) {
 }
 
 fn is_refused(alloc: Global, head: &[u8], wanted: u16) -> bool {
-    head.len() <= 65536
-        && matches!(&next_head(alloc, head, false, PEER), NextHead::Refuse(status) if *status == wanted)
+    head.len() <= MAX_HEAD_LEN
+        && matches!(&next_head(alloc, head, false, LOCAL_PEER), NextHead::Refuse(status) if *status == wanted)
 }
 
 /// The request of a text that is one whole head.
 fn request_of(alloc: Global, head: &[u8]) -> Option<Request> {
-    if head.len() > 65536 {
+    if head.len() > MAX_HEAD_LEN {
         return None;
     }
-    match next_head(alloc, head, false, PEER) {
+    match next_head(alloc, head, false, LOCAL_PEER) {
         NextHead::Head(request, used) => {
             if used == head.len() {
                 Some(request)
@@ -319,7 +318,7 @@ fn is_framed(alloc: Global, head: &[u8], wanted: Framed) -> bool {
 fn a_request_has_the_parts_of_its_head(rt: HostRuntime) -> Result<(), Fail> {
     let text =
         b"\r\nPUT /a//b/ HTTP/1.1\r\nHost: a:80\r\nX-List:\t 1,  2 \t\r\nempty:   \r\n\r\nGET";
-    let NextHead::Head(request, used) = next_head(rt.alloc(), text, false, PEER) else {
+    let NextHead::Head(request, used) = next_head(rt.alloc(), text, false, LOCAL_PEER) else {
         return Err("there is a head".into());
     };
     assert_eq!(rt; used, 66);
@@ -331,12 +330,48 @@ fn a_request_has_the_parts_of_its_head(rt: HostRuntime) -> Result<(), Fail> {
     assert!(rt; request.query.is_none());
     assert_eq!(rt; request.framing, Framing::Empty);
     assert!(rt; request.keep && !request.expects);
-    assert_eq!(rt; request.peer, PEER);
+    assert_eq!(rt; request.peer, LOCAL_PEER);
     let want = [("Host", "a:80"), ("X-List", "1,  2"), ("empty", "")];
     assert_eq!(rt; request.fields.len(), want.len());
     for (field, (name, value)) in request.fields.as_slice().iter().zip(want) {
         assert_eq!(rt; field.name.as_slice(), name.as_bytes());
         assert_eq!(rt; field.value.as_slice(), value.as_bytes());
+    }
+    Ok(())
+}
+
+/// Why heads are refused, as a person reads it, and the statuses.
+const REASONS: [(Refusal, &str, u16); 6] = [
+    (Refusal::NoHead, "these bytes are no request head", 400),
+    (Refusal::WrongHost, "HTTP/1.1 asks for one Host line", 400),
+    (
+        Refusal::WrongLength,
+        "the Content-Length is not one number, or stands with Transfer-Encoding",
+        400,
+    ),
+    (
+        Refusal::WrongCoding,
+        "the last transfer coding is not chunked, or the version has none",
+        400,
+    ),
+    (
+        Refusal::WrongTarget,
+        "the target has no form that is served",
+        400,
+    ),
+    (
+        Refusal::CodedContent,
+        "the content has a coding that is not served",
+        501,
+    ),
+];
+
+#[test]
+fn refusals_have_a_text_and_a_status(rt: HostRuntime) -> Result<(), Fail> {
+    let alloc = rt.alloc();
+    for (refusal, text, status) in REASONS {
+        assert_eq!(rt; format!(in alloc; "{refusal}")?.as_str(), text);
+        assert_eq!(rt; refusal.status(), status);
     }
     Ok(())
 }

@@ -26,7 +26,7 @@ pub(crate) struct Place {
 }
 
 fn version_of(minor: u8) -> Version
-    ensures { result ≡ model.version_by minor }
+    ensures { result ≡ heads.version_by minor }
 {
     if minor == 1 {
         Version::V11

@@ -1,14 +1,13 @@
 //! Fronts of an input written by hand, and what a look at them finds.
 
 ghost use Rattle.std.specs.Prelude.{◌≤◌, length};
+ghost use Rattle.tow_model.specs.declared.limits.TheConstants.{MAX_HEAD_LEN};
 
 use crate::{NextHead, next_head};
 use std::alloc::{AllocError, Global};
 use std::process::Abort;
 use std::test::Fail;
-
-/// The address 127.0.0.1.
-const PEER: u32 = 2130706433;
+use tow_model::limits::{LOCAL_PEER, MAX_HEAD_LEN};
 
 /// What a look finds, without the request.
 #[derive(Clone, Copy, Debug, PartialEq, Eq)]
@@ -21,9 +20,9 @@ enum Told {
 }
 
 fn answer_to(alloc: Global, bytes: &[u8], ended: bool) -> Told
-    requires { length bytes.now ≤ 65536 }
+    requires { length bytes.now ≤ MAX_HEAD_LEN }
 {
-    match next_head(alloc, bytes, ended, PEER) {
+    match next_head(alloc, bytes, ended, LOCAL_PEER) {
         NextHead::Head(_, used) => Told::Head(used),
         NextHead::Partial => Told::Partial,
         NextHead::Nothing => Told::Nothing,
@@ -34,7 +33,7 @@ fn answer_to(alloc: Global, bytes: &[u8], ended: bool) -> Told
 
 /// The bytes get the one answer while more may come, and the other where they have ended.
 fn expect_answer(rt: &impl Abort, alloc: Global, bytes: &[u8], open: Told, ended: Told) {
-    assert!(rt; bytes.len() <= 65536);
+    assert!(rt; bytes.len() <= MAX_HEAD_LEN);
     assert_eq!(rt; answer_to(alloc, bytes, false), open, "open: {bytes:?}");
     assert_eq!(rt; answer_to(alloc, bytes, true), ended, "ended: {bytes:?}");
 }

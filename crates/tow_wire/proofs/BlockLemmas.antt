@@ -2,7 +2,8 @@
 use Rattle.std.specs.Prelude.{true, false, nat_le}
 use Rattle.std.proofs.Common.{◌≡◌, ℕ, zero, suc, ◌<◌, ◌≤◌, List, [], ◌∷◌, ◌++◌, length, take, drop, refl, sym, ap, ap₂, ◌∙◌, subst, arith, length-take, length-drop, take-append-drop, take_all, drop_of_length-le, ◌⊎◌, inl, inr, lit<}
 use Rattle.std.proofs.lemmas.Bool.Decides.{leb_tells}
-use Rattle.tow_wire.specs.Answers.{block_size, cut, ArePieces, BlocksAre}
+use Rattle.tow_model.specs.declared.limits.TheConstants.{BLOCK_LEN}
+use Rattle.tow_wire.specs.Answers.{cut, ArePieces, BlocksAre}
 
 -- more pieces than there are bytes change nothing
 take_length : (a : List ℕ) (n : ℕ) → n ≤ length a → length (take n a) ≡ n
@@ -47,4 +48,4 @@ cut_are size (suc n) (x ∷ bytes) some fits =
         (take_length (x ∷ bytes) size (omega (arith, long))) left (later shorter))
 
 pub blocks_are : BlocksAre
-blocks_are bytes = cut_are block_size (length bytes) bytes (lit< tt) (omega arith)
+blocks_are bytes = cut_are BLOCK_LEN (length bytes) bytes (lit< tt) (omega arith)

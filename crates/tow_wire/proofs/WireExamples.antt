@@ -1,5 +1,5 @@
 -- The definitions at work: what is written.
-use Rattle.std.proofs.Common.{◌≡◌, ℕ, Bool, true, false, List, [], ◌∷◌, ◌++◌, Option, Some, None, refl}
+use Rattle.std.proofs.Common.{◌≡◌, ℕ, ◌+◌, Bool, true, false, List, [], ◌++◌, Option, Some, None, refl}
 use Rattle.std.specs.Prelude.{codes, length}
 use Rattle.std.specs.Fmt.{digits}
 use Rattle.tow_model.specs.declared.request.Version.{Version}
@@ -13,13 +13,14 @@ use Rattle.tow_model.specs.declared.record.Record.{Record}
 use Rattle.tow_model.specs.declared.content.Content.TheVariants as Contents
 use Rattle.tow_semantics.specs.Runs.{Run, Wait, for_content}
 use Rattle.tow_message.specs.Stream.{nothing, refused, last, next}
+use Rattle.tow_model.specs.declared.limits.TheConstants.{BLOCK_LEN, MAX_CONTENT_LEN}
 use Rattle.tow_wire.specs.Answers.{part_of}
 use Rattle.tow_wire.specs.Wire.{wire}
 use Rattle.tow_model.proofs.DateProofs.{date_zero}
 
--- CR LF behind some bytes
+-- the bytes and their line end
 abbrev line : List ℕ → List ℕ
-line bytes = bytes ++ 13 ∷ 10 ∷ []
+line bytes = bytes ++ codes "\r\n"
 
 abbrev date_line : List ℕ
 date_line = line (codes "date: Thu, 01 Jan 1970 00:00:00 GMT")
@@ -123,7 +124,7 @@ unfolding digits
 echo_bad = rw date_zero refl
 
 -- echo-limit
-echo_too_long : wire (ending (state 413 Empty) true None) 0 (last (post (Frames.Fixed 1048577) false) (Some Contents.TooLong)) []
+echo_too_long : wire (ending (state 413 Empty) true None) 0 (last (post (Frames.Fixed (MAX_CONTENT_LEN + 1)) false) (Some Contents.TooLong)) []
     ≡ line (codes "HTTP/1.1 413 Content Too Large") ++ line (codes "connection: close") ++ line (codes "content-length: 0")
     ++ date_line ++ line []
 unfolding digits
@@ -162,7 +163,7 @@ unfolding digits
 head_listing = rw date_zero refl
 
 -- the size line of a whole block
-block_line : digits 16 false 16384 ≡ codes "4000"
+block_line : digits 16 false BLOCK_LEN ≡ codes "4000"
 unfolding digits
 block_line = refl
 

@@ -14,19 +14,21 @@ use Rattle.tow_model.specs.declared.record.Choice.TheVariants.{Undecided, Empty,
 use Rattle.tow_model.specs.declared.content.Content.{Content}
 use Rattle.tow_model.specs.declared.content.Content.TheVariants as Contents
 use Rattle.tow_model.specs.declared.answer.Answer.{Answer}
+use Rattle.tow_model.specs.declared.limits.TheConstants.{BLOCK_LEN, MAX_CONTENT_LEN, MAX_REQUESTS}
 use Rattle.tow_model.specs.Lists.{bytes_le}
 use Rattle.tow_model.specs.Fields.{field}
 use Rattle.tow_model.specs.Dates.{date_of}
-use Rattle.tow_message.specs.Contents.{most_content}
+use Rattle.tow_message.specs.Heads.{is_old}
 use Rattle.tow_wire.specs.Reasons.{reason_of}
 use Rattle.tow_semantics.specs.Runs.{Ending}
+use Rattle.tow_semantics.specs.Values.{has_no_content, is_bare}
 
 -- ---- which answers close
 
 -- a fixed length above the limit
 abbrev pub is_too_long : Framing → Bool
 is_too_long Frames.Empty = false
-is_too_long (Frames.Fixed n) = nat_lt most_content n
+is_too_long (Frames.Fixed n) = nat_lt MAX_CONTENT_LEN n
 is_too_long Frames.Chunked = false
 
 -- the length of the content, where the head can tell it
@@ -44,25 +46,17 @@ is_refused (Some Contents.TooLong) = true
 is_refused (Some (Contents.Whole bytes)) = false
 is_refused None = false
 
-abbrev pub is_old : Version → Bool
-is_old V10 = true
-is_old V11 = false
-
 -- the answer to request j ends the connection
 abbrev pub closes : Request → ℕ → Option Content → Ending → Bool
 closes q j content o =
     not q.keep
-    || j == 1000
+    || j == MAX_REQUESTS
     || is_too_long q.framing
     || (q.expects && not o.asked)
     || (is_old q.version && is_none (known_length o.state.choice))
     || (o.asked && is_refused content)
 
 -- ---- fields
-
--- 204 and 304 tell nothing of their content and have none
-abbrev pub is_bare : ℕ → Bool
-is_bare status = status == 204 || status == 304
 
 abbrev pub length_fields : ℕ → Version → Option ℕ → List Field
 length_fields status version (Some n) =
@@ -122,15 +116,9 @@ content_of file (Whole bytes) = bytes
 content_of file (File path len) = part_of 0 len (file path)
 content_of file (Listing bytes) = bytes
 
-abbrev pub has_no_content : Request → ℕ → Bool
-has_no_content q status = bytes_eq q.method (codes "HEAD") || is_bare status
-
 -- the content that an answer sends
 abbrev pub body : (List ℕ → List ℕ) → Request → Answer → List ℕ
 body file q a = if has_no_content q a.status then [] else content_of file a.choice
-
-abbrev pub block_size : ℕ
-block_size = 16384
 
 -- the bytes cut into pieces of this size, the last one shorter; at most n of them
 abbrev pub cut : ℕ → ℕ → List ℕ → List (List ℕ)
@@ -138,9 +126,9 @@ cut size zero bytes = []
 cut size (suc n) [] = []
 cut size (suc n) (b ∷ bytes) = take size (b ∷ bytes) ∷ cut size n (drop size (b ∷ bytes))
 
--- blocks of 16,384 bytes, the last one shorter
+-- blocks of this many bytes, the last one shorter
 abbrev pub blocks : List ℕ → List (List ℕ)
-blocks bytes = cut block_size (length bytes) bytes
+blocks bytes = cut BLOCK_LEN (length bytes) bytes
 
 -- a chunk: its size in hexadecimal, and its bytes
 abbrev pub chunk_text : List ℕ → List ℕ
@@ -192,7 +180,7 @@ ArePieces size (p ∷ q ∷ pieces) bytes =
 
 -- blocks are such pieces
 abbrev pub BlocksAre : Type 0
-BlocksAre = (bytes : List ℕ) → ArePieces block_size (blocks bytes) bytes
+BlocksAre = (bytes : List ℕ) → ArePieces BLOCK_LEN (blocks bytes) bytes
 
 -- the names are in order
 abbrev pub AreInOrder : List Field → Type 0

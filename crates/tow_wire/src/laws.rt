@@ -8,7 +8,7 @@ pub fn wires_grow()
     ensures { WiresGrow }
 {}
 
-/// Blocks are the bytes in pieces of 16,384, the last one shorter.
+/// Blocks are the bytes in order, in pieces of `BLOCK_LEN` bytes; the last one may be shorter.
 pub fn blocks_are()
     ensures { BlocksAre }
 {}

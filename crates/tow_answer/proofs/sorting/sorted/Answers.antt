@@ -4,11 +4,11 @@ use Rattle.tow_answer.proofs.sorting.sorted.Goals as goal
 
 pub loop-field-init : goal.loop-field-init
 loop-field-init c =
-    ap (placed_all c.args.fields.items) c.in_ok-behind.ensures.items ∙ placed_all-none c.args.fields.items
+    ap (placed_all c.args.fields.items) c.in_ok-placed.ensures.items ∙ placed_all-none c.args.fields.items
 
 pub loop-field-preserved : goal.loop-field-preserved
 loop-field-preserved c =
     ap (placed_all c.pop.new.self.items) c.in_ok-place.ensures
-    ∙ sym (placed_all-last c.pop.new.self.items c.in-Some.field c.loop-field.behind.items)
-    ∙ ap (λ fields. placed_all fields c.loop-field.behind.items) (sym c.in-Some.ensures.items)
+    ∙ sym (placed_all-last c.pop.new.self.items c.in-Some.field c.loop-field.placed.items)
+    ∙ ap (λ fields. placed_all fields c.loop-field.placed.items) (sym c.in-Some.ensures.items)
     ∙ c.loop-field.invariant

@@ -1,6 +1,4 @@
-use Rattle.std.proofs.Common.{rules, tests, ◌≡◌, false, not, ◌&&◌, sym, ap, ◌∙◌}
-use Rattle.std.proofs.lemmas.Iterator.{YieldsList-from_slice}
-use Rattle.std.proofs.lemmas.Iterator.Search.{all_from_yields_List}
+use Rattle.std.proofs.Common.{◌≡◌, false, not, ◌&&◌, sym, ap, ◌∙◌}
 use Rattle.std.specs.Char.{is_ascii_digit}
 use Rattle.std.specs.List.{list_all}
 use Rattle.tow_model.specs.Texts.{is_empty}
@@ -11,5 +9,4 @@ pub returns-then-not-is_empty : goal.returns-then-not-is_empty
 returns-then-not-is_empty c =
     let text = c.args.text.now in
     let some : is_empty text ≡ false = filled text (sym c.is_empty.ensures ∙ c.if-not-is_empty.true) in
-    all_from_yields_List is_ascii_digit _ _ _ c.all.ensures.ran (YieldsList-from_slice text c.iter.ensures.rest) (λ x b q k. search (rules, tests))
-    ∙ ap (λ e. not e && list_all is_ascii_digit text) (sym some)
+    c.are_digits.ensures ∙ ap (λ e. not e && list_all is_ascii_digit text) (sym some)

@@ -1,4 +1,4 @@
-use Rattle.std.proofs.Common.{rules, refl, sym, ◌∙◌, true≢false, inl, inr}
+use Rattle.std.proofs.Common.{rules, sym, ◌∙◌, true≢false, inl, inr}
 use Rattle.httparse.specs.Grammar.{HasNoRequest, NeverHasRequest}
 use Rattle.tow_message.specs.Stream.{IsBlank}
 use Rattle.tow_message.proofs.StreamLemmas.{blank_has_none}
@@ -43,6 +43,6 @@ returns-in_default c =
     let never : NeverHasRequest c.args.bytes.now = c.in-Err.ensures.invalid c.in_default.not-TooManyHeaders in
     let none = no_head c.args.bytes.now (never_now c.args.bytes.now never) in
     record {
-      tells = inr (refl, record { no_head = none; not_blank = λ blank. true≢false (sym (c.is_blank.ensures.1 blank) ∙ c.if-is_blank.false) }, inr (inr never));
+      tells = inr (c.status.ensures, record { no_head = none; not_blank = λ blank. true≢false (sym (c.is_blank.ensures.1 blank) ∙ c.if-is_blank.false) }, inr (inr never));
       found = finds_none c.args.bytes.now c.args.peer _ none;
     }
