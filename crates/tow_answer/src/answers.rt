@@ -23,7 +23,8 @@ pub fn answer_to(
     state: Record,
 ) -> Result<Answer, NoMemory>
     requires { moment < first_undated }
-    ensures answer { IfOk result (λ a. (content : Option Content) (o : Ending) → o.state ≡ state → o.asked ≡ false → a ≡ answer_of request.now number moment content o) }
+    ensures answer { IfOk result (λ a. (content : Option Content) (o : Ending) → o.state ≡ state
+        → o.asked ≡ false → a ≡ answer_of request.now number moment content o) }
     ensures choice { IfOk result (λ a. a.choice ≡ state.choice) }
 {
     let close = closes(request, number, &state.choice);
@@ -45,7 +46,8 @@ pub fn answer_to(
 /// All the bytes of an answer without content. Takes memory for them.
 pub fn text_of(alloc: Global, request: &Request, reply: &Answer) -> Result<Bytes, NoMemory>
     requires { reply.now.choice ≡ Choice.Empty }
-    ensures { IfOk result (λ bytes. (file : List ℕ → List ℕ) → bytes ≡ answer file request.now reply.now) }
+    ensures { IfOk result (λ bytes. (file : List ℕ → List ℕ)
+        → bytes ≡ answer file request.now reply.now) }
 {
     head(alloc, reply.status, &reply.fields)
 }

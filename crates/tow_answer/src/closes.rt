@@ -12,7 +12,8 @@ use tow_model::{Choice, Framing, Request, Version};
 
 /// Whether the answer to request `number` of its connection, whose exchange asked for no content, ends the connection.
 pub(crate) fn closes(request: &Request, number: u32, choice: &Choice) -> bool
-    ensures { (content : Option Content) (o : Ending) → o.state.choice ≡ choice.now → o.asked ≡ false → result ≡ closes request.now number content o }
+    ensures { (content : Option Content) (o : Ending) → o.state.choice ≡ choice.now
+        → o.asked ≡ false → result ≡ closes request.now number content o }
 {
     // What the client asked for, the bounds of a connection and of a content, and what the head cannot tell an old client.
     !request.keep

@@ -41,7 +41,8 @@ fn push_made(
 /// Adds the date of this moment, in seconds since 1970 (RFC 9110, section 6.6.1).
 pub(crate) fn push_date(alloc: Global, fields: &mut Vec<Field>, moment: u64) -> Result<(), NoMemory>
     requires { moment < first_undated }
-    ensures { OnOk result (fields.new.items ≡ fields.old.items ++ field (codes "date") (date_of moment) ∷ []) }
+    ensures { OnOk result (fields.new.items
+        ≡ fields.old.items ++ field (codes "date") (date_of moment) ∷ []) }
 {
     let value = date(alloc, moment)?;
     push_made(alloc, fields, b"date", value)?;
@@ -72,7 +73,8 @@ pub(crate) fn push_length(
     version: Version,
     choice: &Choice,
 ) -> Result<(), AllocError>
-    ensures { OnOk result (fields.new.items ≡ fields.old.items ++ length_fields status version (known_length choice.now)) }
+    ensures { OnOk result (fields.new.items
+        ≡ fields.old.items ++ length_fields status version (known_length choice.now)) }
 {
     if is_bare(status) {
         return Ok(());
@@ -88,7 +90,8 @@ pub(crate) fn push_length(
 
 /// Adds the length of the content, in bytes.
 fn push_content_length(alloc: Global, fields: &mut Vec<Field>, len: u64) -> Result<(), AllocError>
-    ensures { OnOk result (fields.new.items ≡ fields.old.items ++ field (codes "content-length") (decimal len) ∷ []) }
+    ensures { OnOk result (fields.new.items
+        ≡ fields.old.items ++ field (codes "content-length") (decimal len) ∷ []) }
 {
     let digits = len.to_string(alloc)?;
     let value = Bytes::from_vec(digits.into_bytes());

@@ -22,7 +22,9 @@ pub fn refusal(alloc: Global, status: u16, moment: u64) -> Result<Bytes, NoMemor
 
 fn refusal_fields(alloc: Global, moment: u64) -> Result<List<Field>, NoMemory>
     requires { moment < first_undated }
-    ensures { IfOk result (λ fields. fields ≡ field (codes "connection") (codes "close") ∷ field (codes "content-length") (codes "0") ∷ field (codes "date") (date_of moment) ∷ []) }
+    ensures { IfOk result (λ fields. fields
+        ≡ field (codes "connection") (codes "close") ∷ field (codes "content-length") (codes "0") ∷
+        field (codes "date") (date_of moment) ∷ []) }
 {
     let mut fields = Vec::new(alloc);
     push_field(alloc, &mut fields, b"connection", b"close")?;

@@ -37,18 +37,27 @@ pub fn answer_request<O: Sink, C: Clock>(
     requires scratch { scratch.old ≡ pattern_texts site.now.tree }
     requires used { used ≤ length progress.old.inbox }
     requires head { Head (take used progress.old.inbox) LOCAL_PEER request.now }
-    requires served { is_unserved request.now.version request.now.framing request.now.fields ≡ false }
+    requires served { is_unserved request.now.version request.now.framing request.now.fields
+        ≡ false }
     requires number { progress.old.number ≤ 1000 }
     ensures table { C.table clock.new ≡ C.table clock.old }
     ensures scratch { scratch.new ≡ scratch.old }
-    ensures goes { result ≡ Turn.Goes → (told : Option Told) → GoesOn site.now.tree (C.table clock.old) progress.old progress.new told told (O.shows output.old).written (O.shows output.new).written }
-    ensures done { result ≡ Turn.Ended End.Done → (told : Option Told) → WritesRest site.now.tree (C.table clock.old) progress.old told (O.shows output.old).written (O.shows output.new).written }
-    ensures front { (told : Option Told) → WritesFront site.now.tree (C.table clock.old) progress.old told (O.shows output.old).written (O.shows output.new).written }
-    ensures next { result ≡ Turn.Goes → (progress.new.number ≡ progress.old.number + 1) × (progress.new.number ≤ 1000) }
+    ensures goes { result ≡ Turn.Goes → (told : Option Told)
+        → GoesOn site.now.tree (C.table clock.old) progress.old progress.new told told
+        (O.shows output.old).written (O.shows output.new).written }
+    ensures done { result ≡ Turn.Ended End.Done → (told : Option Told)
+        → WritesRest site.now.tree (C.table clock.old) progress.old told
+        (O.shows output.old).written (O.shows output.new).written }
+    ensures front { (told : Option Told)
+        → WritesFront site.now.tree (C.table clock.old) progress.old told
+        (O.shows output.old).written (O.shows output.new).written }
+    ensures next { result ≡ Turn.Goes
+        → (progress.new.number ≡ progress.old.number + 1) × (progress.new.number ≤ 1000) }
     ensures ended { progress.new.ended ≡ progress.old.ended }
     ensures ends { result ≢ Turn.Ended End.FolderFault }
     ensures later { (O.shows output.old).faults ≤ (O.shows output.new).faults }
-    ensures failed { result ≡ Turn.Ended End.LinkFault → Rose (O.shows output.old).faults (O.shows output.new).faults }
+    ensures failed { result ≡ Turn.Ended End.LinkFault
+        → Rose (O.shows output.old).faults (O.shows output.new).faults }
 {
     let moment = clock.at(ONLY_CONNECTION, progress.number);
     let reply = match reply_to(alloc, site, scratch, request, progress.number, moment) {
@@ -74,13 +83,21 @@ pub fn answer_refusal<O: Sink, C: Clock>(
     progress: &Progress,
     status: u16,
 ) -> End
-    requires why { IsRefused progress.now.inbox status ⊎ ((status ≡ 400) × IsNoRequest progress.now.inbox × IsHopeless progress.now.inbox progress.now.ended) }
+    requires why { IsRefused progress.now.inbox status
+        ⊎ ((status ≡ 400) × IsNoRequest progress.now.inbox
+        × IsHopeless progress.now.inbox progress.now.ended) }
     ensures table { C.table clock.new ≡ C.table clock.old }
-    ensures done { result ≡ End.Done → (tree : List Statement) (told : Option Told) → EndIsTold progress.now told → WritesRest tree (C.table clock.old) progress.now told (O.shows output.old).written (O.shows output.new).written }
-    ensures front { (tree : List Statement) (told : Option Told) → EndIsTold progress.now told → WritesFront tree (C.table clock.old) progress.now told (O.shows output.old).written (O.shows output.new).written }
+    ensures done { result ≡ End.Done → (tree : List Statement) (told : Option Told)
+        → EndIsTold progress.now told
+        → WritesRest tree (C.table clock.old) progress.now told (O.shows output.old).written
+        (O.shows output.new).written }
+    ensures front { (tree : List Statement) (told : Option Told) → EndIsTold progress.now told
+        → WritesFront tree (C.table clock.old) progress.now told (O.shows output.old).written
+        (O.shows output.new).written }
     ensures ends { result ≢ End.FolderFault }
     ensures later { (O.shows output.old).faults ≤ (O.shows output.new).faults }
-    ensures failed { result ≡ End.LinkFault → Rose (O.shows output.old).faults (O.shows output.new).faults }
+    ensures failed { result ≡ End.LinkFault
+        → Rose (O.shows output.old).faults (O.shows output.new).faults }
 {
     let moment = clock.at(ONLY_CONNECTION, progress.number);
     let text = match refusal(alloc, status, moment) {

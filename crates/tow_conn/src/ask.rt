@@ -35,15 +35,24 @@ fn take_turn<I: Source, O: Sink, C: Clock>(
     requires told { EndIsTold progress.old (I.shows link.old.input).told }
     ensures table { C.table clock.new ≡ C.table clock.old }
     ensures scratch { scratch.new ≡ scratch.old }
-    ensures goes { result ≡ Turn.Goes → GoesOn site.now.tree (C.table clock.old) progress.old progress.new (I.shows link.old.input).told (I.shows link.new.input).told (O.shows link.old.output).written (O.shows link.new.output).written }
-    ensures done { result ≡ Turn.Ended End.Done → WritesRest site.now.tree (C.table clock.old) progress.old (I.shows link.old.input).told (O.shows link.old.output).written (O.shows link.new.output).written }
-    ensures front { WritesFront site.now.tree (C.table clock.old) progress.old (I.shows link.old.input).told (O.shows link.old.output).written (O.shows link.new.output).written }
+    ensures goes { result ≡ Turn.Goes
+        → GoesOn site.now.tree (C.table clock.old) progress.old progress.new
+        (I.shows link.old.input).told (I.shows link.new.input).told
+        (O.shows link.old.output).written (O.shows link.new.output).written }
+    ensures done { result ≡ Turn.Ended End.Done
+        → WritesRest site.now.tree (C.table clock.old) progress.old (I.shows link.old.input).told
+        (O.shows link.old.output).written (O.shows link.new.output).written }
+    ensures front { WritesFront site.now.tree (C.table clock.old) progress.old
+        (I.shows link.old.input).told (O.shows link.old.output).written
+        (O.shows link.new.output).written }
     ensures told { EndIsTold progress.new (I.shows link.new.input).told }
     ensures on { result ≡ Turn.Goes → GetsOn progress.old progress.new }
     ensures ends { result ≢ Turn.Ended End.FolderFault }
     ensures later_input { (I.shows link.old.input).faults ≤ (I.shows link.new.input).faults }
     ensures later_output { (O.shows link.old.output).faults ≤ (O.shows link.new.output).faults }
-    ensures failed { result ≡ Turn.Ended End.LinkFault → Rose (I.shows link.old.input).faults (I.shows link.new.input).faults ⊎ Rose (O.shows link.old.output).faults (O.shows link.new.output).faults }
+    ensures failed { result ≡ Turn.Ended End.LinkFault
+        → Rose (I.shows link.old.input).faults (I.shows link.new.input).faults
+        ⊎ Rose (O.shows link.old.output).faults (O.shows link.new.output).faults }
 {
     match next_head(alloc, progress.inbox.view(), progress.ended, LOCAL_PEER) {
         NextHead::Head(request, used) => {
@@ -85,12 +94,17 @@ pub fn ask_whole<I: Source, O: Sink, C: Clock>(
 ) -> End
     requires { IsTrue (is_built site.now.tree) }
     ensures table { C.table clock.new ≡ C.table clock.old }
-    ensures done { result ≡ End.Done → WritesWire site.now.tree (C.table clock.old) (I.shows link.old.input).told (O.shows link.old.output).written (O.shows link.new.output).written }
-    ensures part { WritesPart site.now.tree (C.table clock.old) (I.shows link.old.input).told (O.shows link.old.output).written (O.shows link.new.output).written }
+    ensures done { result ≡ End.Done
+        → WritesWire site.now.tree (C.table clock.old) (I.shows link.old.input).told
+        (O.shows link.old.output).written (O.shows link.new.output).written }
+    ensures part { WritesPart site.now.tree (C.table clock.old) (I.shows link.old.input).told
+        (O.shows link.old.output).written (O.shows link.new.output).written }
     ensures ends { result ≢ End.FolderFault }
     ensures later_input { (I.shows link.old.input).faults ≤ (I.shows link.new.input).faults }
     ensures later_output { (O.shows link.old.output).faults ≤ (O.shows link.new.output).faults }
-    ensures failed { result ≡ End.LinkFault → Rose (I.shows link.old.input).faults (I.shows link.new.input).faults ⊎ Rose (O.shows link.old.output).faults (O.shows link.new.output).faults }
+    ensures failed { result ≡ End.LinkFault
+        → Rose (I.shows link.old.input).faults (I.shows link.new.input).faults
+        ⊎ Rose (O.shows link.old.output).faults (O.shows link.new.output).faults }
 {
     let inbox = match Inbox::new(alloc) {
         Ok(inbox) => inbox,

@@ -67,9 +67,11 @@ impl Inbox {
     /// Reads some bytes of the source behind those that are there; there is room for at least one.
     pub fn fill<S: Source>(&mut self, source: &mut S) -> Read
         requires { length self.old < 65536 }
-        ensures fills { Fills (S.shows source.old).told (S.shows source.new).told result self.old self.new }
+        ensures fills { Fills (S.shows source.old).told (S.shows source.new).told result self.old
+            self.new }
         ensures later { (S.shows source.old).faults ≤ (S.shows source.new).faults }
-        ensures failed { result ≡ Read.Failed → Rose (S.shows source.old).faults (S.shows source.new).faults }
+        ensures failed { result ≡ Read.Failed
+            → Rose (S.shows source.old).faults (S.shows source.new).faults }
     {
         if self.to == ROOM {
             self.store.copy_within(self.from..self.to, 0);

@@ -14,12 +14,18 @@ pub fn read_more<I: Source>(input: &mut I, progress: &mut Progress) -> Turn
     requires room { length progress.old.inbox < 65536 }
     requires told { EndIsTold progress.old (I.shows input.old).told }
     ensures number { progress.new.number ≡ progress.old.number }
-    ensures same { BothTell (I.shows input.old).told (I.shows input.new).told (λ t u. open_bytes progress.old t ≡ open_bytes progress.new u) }
+    ensures same { BothTell (I.shows input.old).told (I.shows input.new).told
+        (λ t u. open_bytes progress.old t
+        ≡ open_bytes progress.new u) }
     ensures told { EndIsTold progress.new (I.shows input.new).told }
-    ensures more { result ≡ Turn.Goes → (length progress.old.inbox < length progress.new.inbox × progress.new.ended ≡ progress.old.ended) ⊎ (length progress.old.inbox ≡ length progress.new.inbox × IsTrue progress.new.ended) }
+    ensures more { result ≡ Turn.Goes
+        → (length progress.old.inbox < length progress.new.inbox
+        × progress.new.ended ≡ progress.old.ended)
+        ⊎ (length progress.old.inbox ≡ length progress.new.inbox × IsTrue progress.new.ended) }
     ensures ends { (end : End) → result ≡ Turn.Ended end → end ≡ End.LinkFault }
     ensures later { (I.shows input.old).faults ≤ (I.shows input.new).faults }
-    ensures failed { result ≡ Turn.Ended End.LinkFault → Rose (I.shows input.old).faults (I.shows input.new).faults }
+    ensures failed { result ≡ Turn.Ended End.LinkFault
+        → Rose (I.shows input.old).faults (I.shows input.new).faults }
 {
     match progress.inbox.fill(input) {
         Read::Got(_count) => Turn::Goes,

@@ -32,7 +32,9 @@ pub fn reply_to(
     requires built { IsTrue (is_built site.now.tree) }
     requires scratch { scratch.old ≡ pattern_texts site.now.tree }
     requires moment { moment < first_undated }
-    ensures answers { IfOk result (λ r. (moments : ℕ → ℕ → ℕ) → moment ≡ moments 0 number → request.now.expects ≡ false → Answers (run_of site.now.tree [] moments) number request.now r.text r.closes) }
+    ensures answers { IfOk result (λ r. (moments : ℕ → ℕ → ℕ) → moment ≡ moments 0 number
+        → request.now.expects ≡ false
+        → Answers (run_of site.now.tree [] moments) number request.now r.text r.closes) }
     ensures scratch { scratch.new ≡ scratch.old }
     ensures last { IfOk result (λ r. number ≡ 1000 → r.closes ≡ true) }
 {

@@ -22,7 +22,9 @@ pub fn head(alloc: Global, status: u16, fields: &List<Field>) -> Result<Bytes, N
 /// The status line, with room behind it for so many bytes and the empty line.
 fn status_line(alloc: Global, status: u16, more: usize) -> Result<Vec<u8>, AllocError>
     ensures { IfOk result (λ v.
-        v.items ≡ codes "HTTP/1.1 " ++ decimal status ++ codes " " ++ reason_of status ++ codes "\r\n") }
+        v.items
+        ≡ codes "HTTP/1.1 " ++ decimal status ++ codes " " ++ reason_of status
+        ++ codes "\r\n") }
 {
     let mut digits = Buffer::new();
     let mut line = Vec::with_capacity(alloc, more.saturating_add(LONGEST_STATUS_LINE))?;

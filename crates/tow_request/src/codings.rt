@@ -43,7 +43,9 @@ pub(crate) fn codings_of(bytes: &[u8], lines: &[HeaderSpan]) -> Codings
 /// The codings so far, and those of the line.
 fn with_line(codings: Codings, bytes: &[u8], line: HeaderSpan) -> Codings
     requires { IsHeaderWithin (length bytes.now) line }
-    ensures { (before : List Text) → Sums before codings → Sums (before ++ elements_in (codes "transfer-encoding") (field_at bytes.now line)) result }
+    ensures { (before : List Text) → Sums before codings
+        → Sums (before
+        ++ elements_in (codes "transfer-encoding") (field_at bytes.now line)) result }
 {
     if has_name(bytes, line, b"transfer-encoding") {
         with_value(codings, line.value.of(bytes))
@@ -54,7 +56,8 @@ fn with_line(codings: Codings, bytes: &[u8], line: HeaderSpan) -> Codings
 
 /// The codings so far, and those that the value lists.
 fn with_value(codings: Codings, value: &[u8]) -> Codings
-    ensures { (before : List Text) → Sums before codings → Sums (before ++ elements (value.now ∷ [])) result }
+    ensures { (before : List Text) → Sums before codings
+        → Sums (before ++ elements (value.now ∷ [])) result }
 {
     let mut longer = codings;
     for piece in value.split(|byte| *byte == b',') {
@@ -65,7 +68,9 @@ fn with_value(codings: Codings, value: &[u8]) -> Codings
 
 /// The codings so far, and one more where the element is not empty.
 fn with_element(codings: Codings, element: &[u8]) -> Codings
-    ensures { (before : List Text) → Sums before codings → Sums (before ++ (if is_empty element.now then [] else lowercase element.now ∷ [])) result }
+    ensures { (before : List Text) → Sums before codings
+        → Sums (before
+        ++ (if is_empty element.now then [] else lowercase element.now ∷ [])) result }
 {
     if element.is_empty() {
         return codings;

@@ -16,7 +16,9 @@ use tow_text::trimmed;
 /// Whether some line of the name lists the word, both in any case.
 pub(crate) fn has_listed(bytes: &[u8], lines: &[HeaderSpan], name: &[u8], word: &[u8]) -> bool
     requires { All (IsHeaderWithin (length bytes.now)) lines.now }
-    ensures { result ≡ list_any (bytes_eq (lowercase word.now)) (elements (values_of name.now (fields_at bytes.now lines.now))) }
+    ensures { result
+        ≡ list_any (bytes_eq (lowercase word.now))
+        (elements (values_of name.now (fields_at bytes.now lines.now))) }
 {
     let mut is_listed = false;
     for line in lines {
@@ -30,7 +32,8 @@ pub(crate) fn has_listed(bytes: &[u8], lines: &[HeaderSpan], name: &[u8], word: 
 /// Whether the line has the name and lists the word, both in any case.
 fn lists_word(bytes: &[u8], line: HeaderSpan, name: &[u8], word: &[u8]) -> bool
     requires { IsHeaderWithin (length bytes.now) line }
-    ensures { result ≡ list_any (bytes_eq (lowercase word.now)) (elements_in name.now (field_at bytes.now line)) }
+    ensures { result
+        ≡ list_any (bytes_eq (lowercase word.now)) (elements_in name.now (field_at bytes.now line)) }
 {
     has_name(bytes, line, name) && has_element(line.value.of(bytes), word)
 }
@@ -46,7 +49,9 @@ fn has_element(value: &[u8], word: &[u8]) -> bool
 
 /// Whether the piece between two commas is the word, in any case. An empty piece is no element.
 fn is_element(piece: &[u8], word: &[u8]) -> bool
-    ensures { result ≡ (not (is_empty (trimmed piece.now)) && bytes_eq (lowercase word.now) (lowercase (trimmed piece.now))) }
+    ensures { result
+        ≡ (not (is_empty (trimmed piece.now))
+        && bytes_eq (lowercase word.now) (lowercase (trimmed piece.now))) }
 {
     let element = trimmed(piece);
     !element.is_empty() && word.eq_ignore_ascii_case(element)

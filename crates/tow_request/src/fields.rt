@@ -45,7 +45,8 @@ pub(crate) fn has_named(bytes: &[u8], lines: &[HeaderSpan], name: &[u8]) -> bool
 /// The value of the first line that has the name, in any case.
 fn first_named<'a>(bytes: &'a [u8], lines: &[HeaderSpan], name: &[u8]) -> Option<&'a [u8]>
     requires { All (IsHeaderWithin (length bytes.now)) lines.now }
-    ensures { option_copied result ≡ model.first (values_of name.now (fields_at bytes.now lines.now)) }
+    ensures { option_copied result
+        ≡ model.first (values_of name.now (fields_at bytes.now lines.now)) }
 {
     for line in lines {
         if has_name(bytes, *line, name) {
@@ -58,7 +59,8 @@ fn first_named<'a>(bytes: &'a [u8], lines: &[HeaderSpan], name: &[u8]) -> Option
 /// The value of the line that has the name, in any case, if there is just one.
 pub(crate) fn only_named<'a>(bytes: &'a [u8], lines: &[HeaderSpan], name: &[u8]) -> Option<&'a [u8]>
     requires { All (IsHeaderWithin (length bytes.now)) lines.now }
-    ensures { option_copied result ≡ model.only (values_of name.now (fields_at bytes.now lines.now)) }
+    ensures { option_copied result
+        ≡ model.only (values_of name.now (fields_at bytes.now lines.now)) }
 {
     if count_named(bytes, lines, name) != 1 {
         return None;

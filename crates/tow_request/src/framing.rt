@@ -24,7 +24,8 @@ fn is_number(text: &[u8]) -> bool
 /// Whether there are two Content-Length lines or more, or one that is not a number.
 fn is_no_length(bytes: &[u8], lines: &[HeaderSpan]) -> bool
     requires { All (IsHeaderWithin (length bytes.now)) lines.now }
-    ensures { result ≡ heads.is_no_length (values_of (codes "content-length") (fields_at bytes.now lines.now)) }
+    ensures { result
+        ≡ heads.is_no_length (values_of (codes "content-length") (fields_at bytes.now lines.now)) }
 {
     match only_named(bytes, lines, b"content-length") {
         Some(value) => !is_number(value),

@@ -95,7 +95,8 @@ pub(crate) fn refusal_of(
     head: RequestSpans,
 ) -> Option<Refusal>
     requires { IsRequestWithin bytes.now headers.now head }
-    ensures { result ≡ model.refusal_by head.version (fields_at bytes.now (take head.headers headers.now))
+    ensures { result
+        ≡ model.refusal_by head.version (fields_at bytes.now (take head.headers headers.now))
         (place_of (span_bytes bytes.now head.method) (span_bytes bytes.now head.path)) }
 {
     let lines = &headers[..head.headers];

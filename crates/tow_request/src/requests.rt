@@ -38,7 +38,8 @@ fn version_of(minor: u8) -> Version
 /// Whether the one Expect value is `100-continue`, in any case.
 fn is_continue(bytes: &[u8], lines: &[HeaderSpan]) -> bool
     requires { All (IsHeaderWithin (length bytes.now)) lines.now }
-    ensures { result ≡ heads.is_continue (values_of (codes "expect") (fields_at bytes.now lines.now)) }
+    ensures { result
+        ≡ heads.is_continue (values_of (codes "expect") (fields_at bytes.now lines.now)) }
 {
     match only_named(bytes, lines, b"expect") {
         Some(value) => value.eq_ignore_ascii_case(b"100-continue"),
@@ -61,7 +62,9 @@ fn is_expecting(bytes: &[u8], lines: &[HeaderSpan], version: Version, framing: F
 /// Whether the client keeps the connection (RFC 9112, section 9.3).
 fn is_kept(bytes: &[u8], lines: &[HeaderSpan], version: Version) -> bool
     requires { All (IsHeaderWithin (length bytes.now)) lines.now }
-    ensures { result ≡ heads.keeps version (elements (values_of (codes "connection") (fields_at bytes.now lines.now))) }
+    ensures { result
+        ≡ heads.keeps version (elements
+        (values_of (codes "connection") (fields_at bytes.now lines.now))) }
 {
     match version {
         Version::V11 => !has_listed(bytes, lines, b"connection", b"close"),
@@ -82,8 +85,10 @@ pub(crate) fn copied_request(
     peer: u32,
 ) -> Result<Request, AllocError>
     requires within { IsRequestWithin bytes.now headers.now head }
-    requires right { has_wrong_length (fields_at bytes.now (take head.headers headers.now)) ≡ false }
-    ensures { IfOk result (λ q. (h : RequestHead) → IsRequestAt bytes.now headers.now head h → place_of h.method h.target ≡ Some (model.place_by place) → request_of peer h ≡ q) }
+    requires right { has_wrong_length (fields_at bytes.now (take head.headers headers.now))
+        ≡ false }
+    ensures { IfOk result (λ q. (h : RequestHead) → IsRequestAt bytes.now headers.now head h
+        → place_of h.method h.target ≡ Some (model.place_by place) → request_of peer h ≡ q) }
 {
     let lines = &headers[..head.headers];
     let version = version_of(head.version);
