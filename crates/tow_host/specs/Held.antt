@@ -1,28 +1,47 @@
--- What a host holds, as plain data.
-use Rattle.std.specs.Prelude.{◌≡◌, ℕ, [], Option, None, IfSome}
+-- What contracts see of a host: one record of plain data.
+use Rattle.std.specs.Prelude.{◌≡◌, ℕ, ◌||◌, Bool, false, List, [], Option, None, IfSome, if◌then◌else◌, is_some}
 use Rattle.std.specs.Option.{option_map_or}
-use Rattle.tow_link.specs.Data.{SourceData, SinkData}
+use Rattle.tow_link.specs.Data.{SourceData, SinkData, raised}
+use Rattle.tow_link.specs.Counts.{Counts}
 use Rattle.tow_link.specs.declared.joined.Joined.{Joined}
+use Rattle.tow_host.specs.declared.host.Kept.{Kept}
 
--- What the text source that was handed back last shows, and the streams, and how many text sources were handed back.
--- While the streams are lent, nothing is said of their data.
+-- Of texts: what the source that was handed back last shows, how many sources were handed out, how many back, how often
+-- a text could not be had, by its name, and, where the host tells, each text under its name. Of the streams: whether the host
+-- has them, and what they then show; while they are lent, nothing is said of their data. Then how often each pattern was
+-- refused as too large, and, where the host tells, the second of each request by its clocks.
 pub record Held : Type 0 where
   pub text : SourceData
+  pub handed : ℕ
+  pub returned : ℕ
+  pub text_faults : Counts
+  pub texts : Option (List (List ℕ × List ℕ))
+  pub is_home : Bool
   pub input : SourceData
   pub output : SinkData
-  pub returned : ℕ
+  pub larges : List ℕ → ℕ
+  pub moments : Option (ℕ → ℕ → ℕ)
 
 -- a source that was just handed out: it has not failed, and nothing was read of it
 pub record IsFresh (source : SourceData) : Type 0 where
   pub faults : source.faults ≡ 0
   pub unread : IfSome source.told (λ told. told.read ≡ [])
 
--- what the parts of joined streams show
-abbrev pub input_shown : {I O : Type 0} → (I → SourceData) → Joined I O → SourceData
-input_shown shows streams = shows streams.input
+-- A text was asked for: where a source of it was handed out, that is counted, and the counts of texts that could not be had
+-- may have changed.
+abbrev pub AsksText : Bool → Held → Held → Type 0
+AsksText is_there old new = new ≡ record old {
+  handed = if is_there then raised old.handed else old.handed;
+  text_faults = new.text_faults;
+}
 
-abbrev pub output_shown : {I O : Type 0} → (O → SinkData) → Joined I O → SinkData
-output_shown shows streams = shows streams.output
+-- the streams were lent
+abbrev pub Lends : Held → Held → Type 0
+Lends old new = new ≡ record old { is_home = false; input = new.input; output = new.output }
+
+-- a text source was handed back, which shows this
+abbrev pub with_text : SourceData → Held → Held
+with_text source old = record old { text = source; returned = raised old.returned }
 
 -- the data of a part that is not there
 abbrev pub no_source : SourceData
@@ -31,11 +50,19 @@ no_source = record { faults = 0; told = None }
 abbrev pub no_sink : SinkData
 no_sink = record { faults = 0; written = None }
 
--- what a host holds that keeps the parts themselves, each seen as what it shows
-abbrev pub held_of : {T I O : Type 0} → (T → SourceData) → (I → SourceData) → (O → SinkData) → Option T → ℕ → Option (Joined I O) → Held
-held_of text_shows input_shows output_shows text returned streams = record {
-  text = option_map_or text_shows text no_source;
-  input = option_map_or (input_shown input_shows) streams no_source;
-  output = option_map_or (output_shown output_shows) streams no_sink;
-  returned = returned;
+-- what the parts of joined streams show
+abbrev pub input_shown : {I O : Type 0} → (I → SourceData) → Joined I O → SourceData
+input_shown shows streams = shows streams.input
+
+abbrev pub output_shown : {I O : Type 0} → (O → SinkData) → Joined I O → SinkData
+output_shown shows streams = shows streams.output
+
+-- what parts were handed back: each that is there is held from then on, as what it shows
+abbrev pub with_kept : {T I O : Type 0} → (T → SourceData) → (I → SourceData) → (O → SinkData) → Kept T (Joined I O) → Held → Held
+with_kept text_shows input_shows output_shows kept old = record old {
+  text = option_map_or text_shows kept.text old.text;
+  returned = if is_some kept.text then raised old.returned else old.returned;
+  is_home = is_some kept.streams || old.is_home;
+  input = option_map_or (input_shown input_shows) kept.streams old.input;
+  output = option_map_or (output_shown output_shows) kept.streams old.output;
 }

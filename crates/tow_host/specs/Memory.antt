@@ -1,20 +1,39 @@
 -- What contracts see of a host in memory.
-use Rattle.std.specs.Prelude.{◌≡◌, ℕ, Bool, List, [], string_bytes}
+use Rattle.std.specs.Prelude.{◌≡◌, ℕ, Bool, List, [], Some, string_bytes}
 use Rattle.std.specs.Option.{option_map_or}
-use Rattle.tow_link.specs.Data.{SourceData, content_of}
-use Rattle.tow_link.specs.Counts.{Counts}
+use Rattle.tow_link.specs.Data.{SourceData, SinkData, content_of}
+use Rattle.tow_link.specs.Counts.{Counts, count_at, own_counts}
 use Rattle.tow_host.specs.Held.{Held}
-use Rattle.tow_host.specs.Moments.{MomentsData}
+use Rattle.tow_host.specs.Moments.{MomentsData, second_at}
 use Rattle.tow_host.specs.declared.memory_texts.NamedText.{NamedText}
 
+-- As `Held`, with its moments as a list, and with the counts of its maker of patterns.
 pub record MemoryHostData : Type 0 where
-  pub held : Held
-  pub is_home : Bool
-  pub texts : List (List ℕ × List ℕ)
-  pub moments : MomentsData
-  pub text_faults : List (List ℕ × ℕ)
+  pub text : SourceData
   pub handed : ℕ
+  pub returned : ℕ
+  pub text_faults : List (List ℕ × ℕ)
+  pub texts : List (List ℕ × List ℕ)
+  pub is_home : Bool
+  pub input : SourceData
+  pub output : SinkData
   pub maker : Counts
+  pub moments : MomentsData
+
+-- all of it, as every host shows it
+abbrev pub memory_held : MemoryHostData → Held
+memory_held host = record {
+  text = host.text;
+  handed = host.handed;
+  returned = host.returned;
+  text_faults = own_counts host.text_faults;
+  texts = Some host.texts;
+  is_home = host.is_home;
+  input = host.input;
+  output = host.output;
+  larges = count_at host.maker;
+  moments = Some (second_at host.moments);
+}
 
 -- all but the maker is as it was
 abbrev pub MakerAlone : MemoryHostData → MemoryHostData → Type 0

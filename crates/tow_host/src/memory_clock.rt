@@ -1,6 +1,9 @@
+//! A clock in memory.
+
 ghost use Rattle.std.specs.Prelude.{◌≡◌, ℕ, ◌<◌, [], IsTrue, nat_lt};
 ghost use Rattle.std.specs.List.{list_all};
 ghost use Rattle.tow_host.specs.Moments.{second_of};
+ghost use Rattle.tow_model.specs.declared.limits.TheConstants.{FIRST_UNDATED};
 
 use crate::Clock;
 use std::marker::Model;
@@ -25,18 +28,20 @@ impl Model for MemoryClock {
     ghost use Rattle.std.specs.Prelude.{◌<◌, IsTrue, nat_lt};
     ghost use Rattle.std.specs.List.{list_all};
     ghost use Rattle.tow_host.specs.Moments.{MomentsData};
+    ghost use Rattle.tow_model.specs.declared.limits.TheConstants.{FIRST_UNDATED};
 
     ghost Value = { MomentsData };
 
     ghost view = { λ clock. record { moments = clock.moments.now; others = clock.others } };
 
-    ghost invariant = { λ clock. IsTrue (list_all (λ moment. nat_lt moment.second 253402300800) clock.moments.now) × (clock.others < 253402300800) };
+    ghost invariant = { λ clock. IsTrue (list_all (λ moment. nat_lt moment.second FIRST_UNDATED) clock.moments.now)
+      × (clock.others < FIRST_UNDATED) };
 }
 
 impl MemoryClock {
     /// A clock whose every answer is this second since 1970, which lies before the year 10000.
     pub fn fixed(second: u64) -> Self
-        requires { second < 253402300800 }
+        requires { second < FIRST_UNDATED }
         ensures { result ≡ record { moments = []; others = second } }
     {
         MemoryClock {
@@ -48,8 +53,8 @@ impl MemoryClock {
     /// A clock of these moments, the first of which counts where a request has several, and of one second for all
     /// other requests. All lie before the year 10000.
     pub fn of_moments(moments: &'static [MomentAt], others: u64) -> Self
-        requires moments { IsTrue (list_all (λ moment. nat_lt moment.second 253402300800) moments.now) }
-        requires others { others < 253402300800 }
+        requires moments { IsTrue (list_all (λ moment. nat_lt moment.second FIRST_UNDATED) moments.now) }
+        requires others { others < FIRST_UNDATED }
         ensures { result ≡ record { moments = moments.entry.now; others = others } }
     {
         MemoryClock { moments, others }
@@ -77,11 +82,11 @@ impl Clock for MemoryClock {
     }
 }
 
-// The second of a request: that of its first moment, or the one for all others.
+/// The second of a request: that of its first moment, or the one for all others.
 fn second_in(moments: &[MomentAt], others: u64, k: u32, j: u32) -> u64
-    requires moments { IsTrue (list_all (λ moment. nat_lt moment.second 253402300800) moments.now) }
-    requires others { others < 253402300800 }
-    ensures small { result < 253402300800 }
+    requires moments { IsTrue (list_all (λ moment. nat_lt moment.second FIRST_UNDATED) moments.now) }
+    requires others { others < FIRST_UNDATED }
+    ensures small { result < FIRST_UNDATED }
     ensures told { result ≡ second_of moments.now others k j }
 {
     'moments: for moment in moments {

@@ -1,8 +1,10 @@
-ghost use Rattle.std.specs.Prelude.{◌≡◌, ◌≤◌, ◌||◌, [], Some, None, true, map, is_some, nat_lt, IfOk, option_copied, if◌then◌else◌};
-ghost use Rattle.std.specs.Option.{option_map_or};
-ghost use Rattle.tow_link.specs.Data.{raised, Rose};
+//! A host in memory: its texts, its streams, its moments and what fails are given, and contracts see all of them.
+
+ghost use Rattle.std.specs.Prelude.{◌≡◌, ◌≤◌, [], Some, None, true, nat_lt, option_copied, if◌then◌else◌};
+ghost use Rattle.tow_link.specs.Data.{Rose};
 ghost use Rattle.tow_link.specs.Counts.{count_at, own_counts, KeepsOthers};
-ghost use Rattle.tow_host.specs.Held.{no_source, input_shown, output_shown};
+ghost use Rattle.tow_host.specs.Held.{no_source, with_kept};
+ghost use Rattle.tow_host.specs.Memory.{memory_held};
 
 use crate::{Host, HostFault, Kept, MemoryClock, MemoryTexts};
 use std::alloc::Global;
@@ -27,19 +29,23 @@ pub struct MemoryHost {
 
 impl Model for MemoryHost {
     ghost use Rattle.std.specs.Prelude.{◌≡◌, is_some, nat_lt};
-    ghost use Rattle.tow_host.specs.Held.{held_of};
+    ghost use Rattle.std.specs.Option.{option_map_or};
+    ghost use Rattle.tow_host.specs.Held.{no_source, no_sink, input_shown, output_shown};
     ghost use Rattle.tow_host.specs.Memory.{MemoryHostData};
 
     ghost Value = { MemoryHostData };
 
     ghost view = { λ host. record {
-      held = held_of (λ text. text) (λ input. input) (λ output. output) host.kept_text host.returned host.streams;
-      is_home = is_some host.streams;
-      texts = host.texts;
-      moments = host.clock;
-      text_faults = host.faults;
+      text = option_map_or (λ text. text) host.kept_text no_source;
       handed = host.handed;
+      returned = host.returned;
+      text_faults = host.faults;
+      texts = host.texts;
+      is_home = is_some host.streams;
+      input = option_map_or (input_shown (λ input. input)) host.streams no_source;
+      output = option_map_or (output_shown (λ output. output)) host.streams no_sink;
       maker = host.maker;
+      moments = host.clock;
     } };
 
     ghost invariant = { λ host. is_some host.kept_text ≡ nat_lt 0 host.returned };
@@ -55,13 +61,16 @@ impl MemoryHost {
         failing: Vec<u64>,
     ) -> Self
         ensures { result ≡ record {
-          held = record { text = no_source; input = streams.input; output = streams.output; returned = 0 };
-          is_home = true;
-          texts = texts;
-          moments = clock;
-          text_faults = [];
+          text = no_source;
           handed = 0;
+          returned = 0;
+          text_faults = [];
+          texts = texts;
+          is_home = true;
+          input = streams.input;
+          output = streams.output;
           maker = own_counts [];
+          moments = clock;
         } }
     {
         MemoryHost {
@@ -86,14 +95,14 @@ impl MemoryHost {
 
     /// The input, where it is not lent.
     pub fn input(&self) -> Option<&MemorySource>
-        ensures { option_copied result ≡ (if self.now.is_home then Some self.now.held.input else None) }
+        ensures { option_copied result ≡ (if self.now.is_home then Some self.now.input else None) }
     {
         self.streams.as_ref().map(|streams| &streams.input)
     }
 
     /// The output, where it is not lent.
     pub fn output(&self) -> Option<&MemorySink>
-        ensures { option_copied result ≡ (if self.now.is_home then Some self.now.held.output else None) }
+        ensures { option_copied result ≡ (if self.now.is_home then Some self.now.output else None) }
     {
         self.streams.as_ref().map(|streams| &streams.output)
     }
@@ -107,14 +116,14 @@ impl MemoryHost {
 
     /// The text source that was handed back last.
     pub fn kept_text(&self) -> Option<&MemorySource>
-        ensures { option_copied result ≡ (if nat_lt 0 self.now.held.returned then Some self.now.held.text else None) }
+        ensures { option_copied result ≡ (if nat_lt 0 self.now.returned then Some self.now.text else None) }
     {
         self.kept_text.as_ref()
     }
 
     /// How many text sources were handed back.
     pub fn returned(&self) -> u64
-        ensures { result ≡ self.now.held.returned }
+        ensures { result ≡ self.now.returned }
     {
         self.returned
     }
@@ -153,22 +162,9 @@ impl Host for MemoryHost {
 
     type Clock = MemoryClock;
 
-    ghost use Rattle.std.specs.Prelude.{Some};
     ghost use Rattle.std.proofs.Common.{ap};
-    ghost use Rattle.tow_host.specs.Memory.{MemoryHostData};
-    ghost use Rattle.tow_host.specs.Moments.{second_at};
 
-    ghost held = { λ host. host.held };
-
-    ghost is_home = { λ host. host.is_home };
-
-    ghost text_faults = { λ host. own_counts host.text_faults };
-
-    ghost handed = { λ host. host.handed };
-
-    ghost texts = { λ host. Some host.texts };
-
-    ghost moments = { λ host. Some (second_at host.moments) };
+    ghost held = { memory_held };
 
     #[tactic(auto, using(tow_link::proofs::Raising::keeps_all))]
     fn text(&mut self, name: &str) -> Result<MemorySource, HostFault> {
@@ -197,17 +193,8 @@ impl Host for MemoryHost {
     }
 
     fn take_back(&mut self, kept: Kept<MemorySource, Joined<MemorySource, MemorySink>>)
-        ensures text { self.new.held.text ≡ option_map_or (λ text. text) kept.text self.old.held.text }
-        ensures returned { self.new.held.returned
-            ≡ (if is_some kept.text then raised self.old.held.returned else self.old.held.returned) }
-        ensures input { self.new.held.input ≡ option_map_or (input_shown (λ input. input)) kept.streams self.old.held.input }
-        ensures output { self.new.held.output ≡ option_map_or (output_shown (λ output. output)) kept.streams self.old.held.output }
-        ensures home { self.new.is_home ≡ (is_some kept.streams || self.old.is_home) }
-        ensures handed { self.new.handed ≡ self.old.handed }
-        ensures faults { self.new.text_faults ≡ self.old.text_faults }
-        ensures texts { self.new.texts ≡ self.old.texts }
-        ensures moments { self.new.moments ≡ self.old.moments }
-        ensures larges { count_at self.new.maker ≡ count_at self.old.maker }
+        ensures held { memory_held self.new
+            ≡ with_kept (λ text. text) (λ input. input) (λ output. output) kept (memory_held self.old) }
     {
         let Kept { text, streams } = kept;
         if text.is_some() {
@@ -219,20 +206,10 @@ impl Host for MemoryHost {
         }
     }
 
-    ghost stays_held = { λ old new stays. ap (λ (host : MemoryHostData). host.held) stays };
-
-    ghost stays_home = { λ old new stays. ap (λ (host : MemoryHostData). host.is_home) stays };
-
-    ghost stays_text_faults = { λ old new stays. ap (λ (host : MemoryHostData). own_counts host.text_faults) stays };
-
-    ghost stays_handed = { λ old new stays. ap (λ (host : MemoryHostData). host.handed) stays };
-
-    ghost stays_texts = { λ old new stays. ap (λ (host : MemoryHostData). Some host.texts) stays };
-
-    ghost stays_moments = { λ old new stays. ap (λ (host : MemoryHostData). Some (second_at host.moments)) stays };
+    ghost stays_held = { λ old new stays. ap memory_held stays };
 }
 
-// Counts a fault under this name. Without memory for the name there is no count, and want of memory is the answer.
+/// Counts a fault under this name. Without memory for the name there is no count, and want of memory is the answer.
 #[tactic(auto, using(tow_link::proofs::Raising::rose_here, tow_link::proofs::Raising::later_here, tow_link::proofs::Raising::keeps_others, tow_link::proofs::Raising::keeps_all))]
 fn failed(faults: &mut KeyCounts, name: &str) -> HostFault
     ensures failed { result ≡ HostFault.Failed

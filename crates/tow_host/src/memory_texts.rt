@@ -1,3 +1,5 @@
+//! The texts of a host in memory.
+
 ghost use Rattle.std.specs.Prelude.{◌≡◌, IfOk, map, option_map, option_copied};
 ghost use Rattle.tow_link.specs.Data.{fresh_source};
 ghost use Rattle.tow_host.specs.Texts.{text_named};
@@ -49,7 +51,7 @@ impl MemoryTexts {
     }
 }
 
-// What was given for the text of this name, the first of it.
+/// What was given for the text of this name, the first of it.
 fn source_in<'a>(texts: &'a [NamedText], name: &str) -> Option<&'a MemorySource>
     ensures { option_map source_bytes (option_copied result) ≡ text_named (map text_told texts.now) name.now }
 {

@@ -1,3 +1,5 @@
+//! What a host in memory gives and tells.
+
 ghost use Rattle.std.specs.Prelude.{◌≡◌, ◌<◌, IfOk, true};
 ghost use Rattle.std.specs.Option.{ForSome};
 
@@ -13,8 +15,8 @@ fn source(alloc: Global, bytes: &[u8]) -> Result<MemorySource, AllocError> {
     Ok(MemorySource::new(bytes.to_vec(alloc)?, Vec::new(alloc)))
 }
 
-// A host of the texts `one` and `three` under `a` and `two` under `b`, whose second call of `text` fails, with the
-// input `in`.
+/// A host of the texts `one` and `three` under `a` and `two` under `b`, whose second call of `text` fails, with the
+/// input `in`.
 fn host(alloc: Global) -> Result<MemoryHost, AllocError>
     ensures home { IfOk result (λ host. host.is_home ≡ true) }
 {
@@ -52,7 +54,7 @@ const MOMENTS: [MomentAt; 2] = [
     },
 ];
 
-// The text of a name, whose source is handed back; `!` where the host fails.
+/// The text of a name, whose source is handed back; `!` where the host fails.
 fn text_of<H: Host>(alloc: Global, host: &mut H, name: &str) -> Result<Vec<u8>, AllocError> {
     let Ok(mut text) = host.text(name) else {
         return b"!".to_vec(alloc);
@@ -68,8 +70,8 @@ fn text_of<H: Host>(alloc: Global, host: &mut H, name: &str) -> Result<Vec<u8>, 
     }
 }
 
-// The texts of these names one after the other, then how often `a`, `b` and `c` failed and how many sources came
-// back, and the text that came back last.
+/// The texts of these names one after the other, then how often `a`, `b` and `c` failed and how many sources came
+/// back, and the text that came back last.
 fn texts_of(alloc: Global, names: &[&str]) -> Result<(Vec<u8>, [u64; 4], Vec<u8>), AllocError> {
     let mut host = host(alloc)?;
     let mut texts = Vec::new(alloc);
@@ -89,7 +91,7 @@ fn texts_of(alloc: Global, names: &[&str]) -> Result<(Vec<u8>, [u64; 4], Vec<u8>
     Ok((texts, counts, last))
 }
 
-// Reads all of the input, and writes it to the output.
+/// Reads all of the input, and writes it to the output.
 fn echo<H: Host>(alloc: Global, host: &mut H)
     requires { H.is_home host.old ≡ true }
 {
@@ -103,7 +105,7 @@ fn echo<H: Host>(alloc: Global, host: &mut H)
     });
 }
 
-// What an echo leaves: what the output has, and how much the input has left.
+/// What an echo leaves: what the output has, and how much the input has left.
 fn echoed(alloc: Global) -> Result<Option<(Vec<u8>, usize)>, AllocError> {
     let mut host = host(alloc)?;
     echo(alloc, &mut host);
@@ -116,7 +118,7 @@ fn echoed(alloc: Global) -> Result<Option<(Vec<u8>, usize)>, AllocError> {
     }
 }
 
-// The moments of the requests 1 and 2 of the connections 0 and 1.
+/// The moments of the requests 1 and 2 of the connections 0 and 1.
 fn seconds<H: Host>(host: &mut H, moment: Option<u64>) -> [u64; 4]
     requires { ForSome moment (λ second. second < 253402300800) }
 {
@@ -129,7 +131,7 @@ fn seconds<H: Host>(host: &mut H, moment: Option<u64>) -> [u64; 4]
     ]
 }
 
-// The moments of a host, and then those of a clock that was given one.
+/// The moments of a host, and then those of a clock that was given one.
 fn moments(alloc: Global) -> Result<([u64; 4], [u64; 4]), AllocError> {
     let mut host = host(alloc)?;
     let told = seconds(&mut host, None);
@@ -161,7 +163,7 @@ fn a_clock_tells_its_moments(rt: HostRuntime) -> Result<(), Fail> {
     Ok(())
 }
 
-// Whether a host that refuses this pattern as too large builds these, and how often it has refused the first of them.
+/// Whether a host that refuses this pattern as too large builds these, and how often it has refused the first of them.
 fn builds(alloc: Global, large: &[u8], patterns: &[&[u8]]) -> Result<(Vec<bool>, u64), AllocError> {
     let mut counts = KeyCounts::new(alloc);
     counts.begin(large.to_vec(alloc)?)?;
