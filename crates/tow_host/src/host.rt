@@ -47,11 +47,15 @@ pub trait Host: Maker {
     /// A source of the text of this name, from its front. A host that tells fails where it has no such text.
     fn text(&mut self, name: &str) -> Result<Self::Text, HostFault>
         ensures fresh { IfOk result (λ text. IsFresh (Self.Text.shows text)) }
-        ensures named { IfOk result (λ text. ShowsText (held self.old).texts name.now (Self.Text.shows text)) }
+        ensures named { IfOk result (λ text. ShowsText (held self.old).texts name.now
+            (Self.Text.shows text)) }
         ensures failed { result ≡ Err HostFault.Failed
-            → Rose (count_at (held self.old).text_faults name.now) (count_at (held self.new).text_faults name.now) }
-        ensures later { count_at (held self.old).text_faults name.now ≤ count_at (held self.new).text_faults name.now }
-        ensures others { KeepsOthers (held self.old).text_faults (held self.new).text_faults name.now }
+            → Rose (count_at (held self.old).text_faults name.now)
+            (count_at (held self.new).text_faults name.now) }
+        ensures later { count_at (held self.old).text_faults name.now ≤ count_at
+            (held self.new).text_faults name.now }
+        ensures others { KeepsOthers (held self.old).text_faults (held self.new).text_faults
+            name.now }
         ensures held { AsksText (is_ok result) (held self.old) (held self.new) };
 
     /// A clock: of this one moment, in seconds since 1970 and before the year 10000, or that of the host. Takes no

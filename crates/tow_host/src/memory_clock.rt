@@ -34,8 +34,9 @@ impl Model for MemoryClock {
 
     ghost view = { λ clock. record { moments = clock.moments.now; others = clock.others } };
 
-    ghost invariant = { λ clock. IsTrue (list_all (λ moment. nat_lt moment.second FIRST_UNDATED) clock.moments.now)
-      × (clock.others < FIRST_UNDATED) };
+    ghost invariant = { λ clock. IsTrue
+        (list_all (λ moment. nat_lt moment.second FIRST_UNDATED) clock.moments.now)
+        × (clock.others < FIRST_UNDATED) };
 }
 
 impl MemoryClock {
@@ -53,7 +54,8 @@ impl MemoryClock {
     /// A clock of these moments, the first of which counts where a request has several, and of one second for all
     /// other requests. All lie before the year 10000.
     pub fn of_moments(moments: &'static [MomentAt], others: u64) -> Self
-        requires moments { IsTrue (list_all (λ moment. nat_lt moment.second FIRST_UNDATED) moments.now) }
+        requires moments { IsTrue (list_all (λ moment. nat_lt moment.second FIRST_UNDATED)
+            moments.now) }
         requires others { others < FIRST_UNDATED }
         ensures { result ≡ record { moments = moments.entry.now; others = others } }
     {

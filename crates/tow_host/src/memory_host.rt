@@ -116,7 +116,8 @@ impl MemoryHost {
 
     /// The text source that was handed back last.
     pub fn kept_text(&self) -> Option<&MemorySource>
-        ensures { option_copied result ≡ (if nat_lt 0 self.now.returned then Some self.now.text else None) }
+        ensures { option_copied result
+            ≡ (if nat_lt 0 self.now.returned then Some self.now.text else None) }
     {
         self.kept_text.as_ref()
     }
@@ -150,7 +151,8 @@ impl Maker for MemoryHost {
 
     ghost stays_same = { λ host. refl };
 
-    ghost stays_on = { λ first next last one two. two ∙ ap (λ (host : MemoryHostData). record host { maker = last.maker }) one };
+    ghost stays_on = { λ first next last one two. two ∙ ap
+        (λ (host : MemoryHostData). record host { maker = last.maker }) one };
 }
 
 impl Host for MemoryHost {
@@ -194,7 +196,8 @@ impl Host for MemoryHost {
 
     fn take_back(&mut self, kept: Kept<MemorySource, Joined<MemorySource, MemorySink>>)
         ensures held { memory_held self.new
-            ≡ with_kept (λ text. text) (λ input. input) (λ output. output) kept (memory_held self.old) }
+            ≡ with_kept (λ text. text) (λ input. input) (λ output. output) kept
+            (memory_held self.old) }
     {
         let Kept { text, streams } = kept;
         if text.is_some() {
@@ -213,8 +216,10 @@ impl Host for MemoryHost {
 #[tactic(auto, using(tow_link::proofs::Raising::rose_here, tow_link::proofs::Raising::later_here, tow_link::proofs::Raising::keeps_others, tow_link::proofs::Raising::keeps_all))]
 fn failed(faults: &mut KeyCounts, name: &str) -> HostFault
     ensures failed { result ≡ HostFault.Failed
-        → Rose (count_at (own_counts faults.old) name.now) (count_at (own_counts faults.new) name.now) }
-    ensures later { count_at (own_counts faults.old) name.now ≤ count_at (own_counts faults.new) name.now }
+        → Rose (count_at (own_counts faults.old) name.now)
+        (count_at (own_counts faults.new) name.now) }
+    ensures later { count_at (own_counts faults.old) name.now ≤ count_at (own_counts faults.new)
+        name.now }
     ensures others { KeepsOthers (own_counts faults.old) (own_counts faults.new) name.now }
 {
     match faults.raise(name.as_bytes()) {

@@ -42,7 +42,8 @@ impl MemoryTexts {
 
     /// A fresh source of the text of this name, if there is one. Takes memory for it.
     pub fn open(&self, name: &str) -> Result<Option<MemorySource>, AllocError>
-        ensures { IfOk result (λ source. source ≡ option_map fresh_source (text_named self.now name.now)) }
+        ensures { IfOk result (λ source. source
+            ≡ option_map fresh_source (text_named self.now name.now)) }
     {
         match source_in(&self.texts, name) {
             Some(source) => Ok(Some(source.restarted()?)),
@@ -53,7 +54,8 @@ impl MemoryTexts {
 
 /// What was given for the text of this name, the first of it.
 fn source_in<'a>(texts: &'a [NamedText], name: &str) -> Option<&'a MemorySource>
-    ensures { option_map source_bytes (option_copied result) ≡ text_named (map text_told texts.now) name.now }
+    ensures { option_map source_bytes (option_copied result)
+        ≡ text_named (map text_told texts.now) name.now }
 {
     'texts: for text in texts {
         if text.name.as_str() == name {

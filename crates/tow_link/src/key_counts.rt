@@ -100,8 +100,10 @@ fn entry_in(counts: &[KeyCount], key: &[u8]) -> Option<u64>
 // Raises the count of this key by one, if there is one.
 fn raise_in(counts: &mut [KeyCount], key: &[u8]) -> bool
     ensures known { result ≡ is_some (entry_at (map entry_of counts.old) key.now) }
-    ensures found { OnTrue result (map entry_of counts.new ≡ raised_at (map entry_of counts.old) key.now) }
-    ensures none { OnFalse result (map entry_of counts.old ++ (key.now, 1) ∷ [] ≡ raised_at (map entry_of counts.old) key.now) }
+    ensures found { OnTrue result (map entry_of counts.new
+        ≡ raised_at (map entry_of counts.old) key.now) }
+    ensures none { OnFalse result (map entry_of counts.old ++ (key.now, 1) ∷ []
+        ≡ raised_at (map entry_of counts.old) key.now) }
     ensures same { OnFalse result (counts.new ≡ counts.old) }
     ensures fits { count_at (own_counts (map entry_of counts.old)) key.now ≤ 2 ^ 64 - 1 }
 {

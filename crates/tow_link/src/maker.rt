@@ -31,12 +31,14 @@ pub trait Maker {
         ensures built { IfBuilt result (IsRegexOf pattern.now) }
         ensures good { IfBuilt result (λ _. IsGoodPattern pattern.now) }
         ensures syntax { result ≡ Made.Syntax → ¬ (IsGoodPattern pattern.now) }
-        ensures large { result ≡ Made.Large → Rose (larges self.old pattern.now) (larges self.new pattern.now) }
+        ensures large { result ≡ Made.Large
+            → Rose (larges self.old pattern.now) (larges self.new pattern.now) }
         ensures later { (p : List ℕ) → larges self.old p ≤ larges self.new p }
         ensures only { result ≢ Made.Large → larges self.new ≡ larges self.old }
         ensures stays { stays self.old self.new };
 
     ghost stays_same: { (maker : Self) → stays maker maker };
 
-    ghost stays_on: { (first next last : Self) → stays first next → stays next last → stays first last };
+    ghost stays_on: { (first next last : Self) → stays first next → stays next last
+        → stays first last };
 }

@@ -52,11 +52,13 @@ impl Maker for MemoryMaker {
         ensures built { IfBuilt result (IsRegexOf pattern.now) }
         ensures good { IfBuilt result (λ _. IsGoodPattern pattern.now) }
         ensures syntax { result ≡ Made.Syntax → ¬ (IsGoodPattern pattern.now) }
-        ensures large { result ≡ Made.Large → Rose (count_at self.old pattern.now) (count_at self.new pattern.now) }
+        ensures large { result ≡ Made.Large
+            → Rose (count_at self.old pattern.now) (count_at self.new pattern.now) }
         ensures later { (p : List ℕ) → count_at self.old p ≤ count_at self.new p }
         ensures only { result ≢ Made.Large → count_at self.new ≡ count_at self.old }
         ensures listed { IsSome (entry_at self.old.named pattern.now) → result ≡ Made.Large }
-        ensures unlisted { IsNone (entry_at self.old.named pattern.now) → self.new.named ≡ self.old.named }
+        ensures unlisted { IsNone (entry_at self.old.named pattern.now)
+            → self.new.named ≡ self.old.named }
     {
         if self.larges.raise_known(pattern) {
             return Made::Large;

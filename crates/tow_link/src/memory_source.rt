@@ -24,7 +24,11 @@ impl Model for MemorySource {
 
     ghost view = { λ source. record {
       faults = source.faults;
-      told = Some (record { read = take source.at source.bytes.items; left = drop source.at source.bytes.items });
+      told = Some (record {
+        read = take source.at source.bytes.items;
+        left = drop source.at
+            source.bytes.items;
+      });
     } };
 
     ghost invariant = { λ source. source.at ≤ length source.bytes.items };
@@ -52,7 +56,8 @@ impl MemorySource {
         pieces: Vec<Vec<u8>>,
         failing: Vec<u64>,
     ) -> Result<Self, AllocError>
-        ensures { IfOk result (λ source. source ≡ fresh_source (flat_map (λ piece. piece.items) pieces.items)) }
+        ensures { IfOk result (λ source. source
+            ≡ fresh_source (flat_map (λ piece. piece.items) pieces.items)) }
     {
         let mut bytes = Vec::new(alloc);
         let mut ends = Vec::new(alloc);
@@ -72,7 +77,8 @@ impl MemorySource {
     /// A source of the same bytes in the same pieces, of which nothing was read yet and the same reads fail. Takes
     /// memory.
     pub fn restarted(&self) -> Result<Self, AllocError>
-        ensures { IfOk result (λ source. IsSomeAnd self.now.told (λ told. source ≡ fresh_source (content_of told))) }
+        ensures { IfOk result (λ source. IsSomeAnd self.now.told (λ told. source
+            ≡ fresh_source (content_of told))) }
     {
         Ok(MemorySource {
             bytes: self.bytes.clone()?,

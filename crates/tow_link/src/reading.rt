@@ -25,7 +25,8 @@ pub enum Whole {
 pub fn read_whole<S: Source>(alloc: Global, source: &mut S, most: usize) -> Whole
     ensures reads { ReadsWhole (S.shows source.old).told (S.shows source.new).told most result }
     ensures later { (S.shows source.old).faults ≤ (S.shows source.new).faults }
-    ensures failed { result ≡ Whole.Failed → Rose (S.shows source.old).faults (S.shows source.new).faults }
+    ensures failed { result ≡ Whole.Failed
+        → Rose (S.shows source.old).faults (S.shows source.new).faults }
 {
     let mut bytes = Vec::new(alloc);
     let mut buffer = [0; PIECE];

@@ -20,7 +20,9 @@ pub trait Sink {
     fn write(&mut self, from: &[u8]) -> Write
         requires { 0 < length from.now }
         ensures fits { WriteFits result (length from.now) }
-        ensures bytes { WriteAppends (shows self.old).written (shows self.new).written result from.now }
+        ensures bytes { WriteAppends (shows self.old).written (shows self.new).written result
+            from.now }
         ensures later { (shows self.old).faults ≤ (shows self.new).faults }
-        ensures failed { result ≡ Write.Failed → Rose (shows self.old).faults (shows self.new).faults };
+        ensures failed { result ≡ Write.Failed
+            → Rose (shows self.old).faults (shows self.new).faults };
 }

@@ -24,5 +24,6 @@ pub trait Source {
         ensures fits { ReadFits result (length to.new) }
         ensures bytes { ReadMoves (shows self.old).told (shows self.new).told result to.new }
         ensures later { (shows self.old).faults ≤ (shows self.new).faults }
-        ensures failed { result ≡ Read.Failed → Rose (shows self.old).faults (shows self.new).faults };
+        ensures failed { result ≡ Read.Failed
+            → Rose (shows self.old).faults (shows self.new).faults };
 }

@@ -11,7 +11,8 @@ pub struct Failed;
 
 /// Writes all the bytes, or the front of them and then the sink fails; after that it is not called again.
 pub fn write_all<K: Sink>(sink: &mut K, bytes: &[u8]) -> Result<(), Failed>
-    ensures all { OnOk result ((K.shows sink.new).written ≡ append_known (K.shows sink.old).written bytes.now) }
+    ensures all { OnOk result ((K.shows sink.new).written
+        ≡ append_known (K.shows sink.old).written bytes.now) }
     ensures part { AppendsPart (K.shows sink.old).written (K.shows sink.new).written bytes.now }
     ensures later { (K.shows sink.old).faults ≤ (K.shows sink.new).faults }
     ensures failed { OnErr result (Rose (K.shows sink.old).faults (K.shows sink.new).faults) }

@@ -9,9 +9,9 @@ use Rattle.tow_host.specs.Texts.{text_named}
 use Rattle.tow_site.specs.Compiled.{SiteData, IsSiteOf}
 use Rattle.tow_site.proofs.Sites.{one_site, no_site_at_fault, no_site_at_pattern, is_short}
 use Rattle.tow_server.specs.declared.status.Status.{Status}
-use Rattle.tow_server.specs.declared.status.Status.TheVariants.{Done, Text, NoMemory, StreamFault}
+use Rattle.tow_server.specs.declared.status.Status.TheVariants.{Done, Text, HostFault, NoMemory, StreamFault}
 use Rattle.tow_server.specs.Lines.{IsRefusal}
-use Rattle.tow_server.specs.Loading.{Texts, IsNamed, IsRead, IsRightText, NothingFailed}
+use Rattle.tow_server.specs.Texts.{Texts, IsNamed, IsRead, IsRightText, NothingFailed, Refuses, ReturnsText, TextCallFailed, TextSourceFailed}
 
 module _ (before now : List ℕ → ℕ) (none_rose : (pattern : List ℕ) → Rose (before pattern) (now pattern) → ⊥) where
   -- the text of a site that is built is not refused
@@ -49,14 +49,25 @@ module _ (before now : List ℕ → ℕ) (none_rose : (pattern : List ℕ) → R
       by None right named = absurd right
       by (Some whole) (site, is, built) named = source_not_refused is_built source.told whole bytes line site is built named read refusal
 
--- the ends of a command under a text, of which two cannot be
-pub complete_by_ends : (status : Status) → (((status ≡ Done) ⊎ (status ≡ StreamFault)) ⊎ (status ≡ NoMemory)) ⊎ (status ≡ Text)
-    → (status ≡ Text → ⊥) → (status ≡ StreamFault → ⊥) → (status ≡ Done) ⊎ (status ≡ NoMemory)
-complete_by_ends status (inl (inl (inl done))) text stream = inl done
-complete_by_ends status (inl (inl (inr fault))) text stream = absurd (stream fault)
-complete_by_ends status (inl (inr memory)) text stream = inr memory
-complete_by_ends status (inr wrong) text stream = absurd (text wrong)
-
-pub no_rise : (texts : Texts) (name : List ℕ) (old new : Held) (before now : ℕ) (larges_before larges_now : List ℕ → ℕ) → NothingFailed texts name old new before now larges_before larges_now → Rose old.input.faults new.input.faults ⊎ Rose old.output.faults new.output.faults → ⊥
-no_rise texts name old new before now larges_before larges_now fine (inl rose) = fine.input rose
-no_rise texts name old new before now larges_before larges_now fine (inr rose) = fine.output rose
+-- Where the text is right and nothing failed, neither a refusal nor a fault can be the end.
+pub completes : (is_built : SiteData → Bool) (name : List ℕ) (status : Status) (old new : Held)
+    → ((((status ≡ Done) ⊎ (status ≡ StreamFault)) ⊎ (status ≡ NoMemory)) ⊎ ((status ≡ HostFault) ⊎ (status ≡ Text)))
+    → (status ≡ Text → ReturnsText name old new) → (status ≡ Text → Refuses is_built old new)
+    → (status ≡ HostFault → TextSourceFailed name old new ⊎ TextCallFailed name old new)
+    → (status ≡ StreamFault → Rose old.input.faults new.input.faults ⊎ Rose old.output.faults new.output.faults)
+    → IsRightText is_built old.texts name → NothingFailed name old new → (status ≡ Done) ⊎ (status ≡ NoMemory)
+completes is_built name status old new (inl (inl (inl done))) text refused host stream right fine = inl done
+completes is_built name status old new (inl (inl (inr is))) text refused host stream right fine = absurd (rose (stream is))
+  where
+    rose : Rose old.input.faults new.input.faults ⊎ Rose old.output.faults new.output.faults → ⊥
+    rose (inl input) = fine.input input
+    rose (inr output) = fine.output output
+completes is_built name status old new (inl (inr memory)) text refused host stream right fine = inr memory
+completes is_built name status old new (inr (inl is)) text refused host stream right fine = absurd (failed (host is))
+  where
+    failed : TextSourceFailed name old new ⊎ TextCallFailed name old new → ⊥
+    failed (inl source) = fine.source source
+    failed (inr call) = fine.call call
+completes is_built name status old new (inr (inr is)) text refused host stream right fine =
+    let r = refused is in
+    absurd (not_refused old.larges new.larges fine.patterns is_built old.texts name new.text r.bytes r.line right (text is).named r.read r.refusal)

@@ -1,3 +1,4 @@
 pub mod Completing
+pub mod Joining
+pub mod Making
 pub mod Naming
-pub mod Numbers

@@ -1,6 +1,7 @@
-pub mod Asking
-pub mod Checking
+pub mod Ask
+pub mod Check
 pub mod Codes
 pub mod Lines
-pub mod Loading
-pub mod Words
+pub mod Steps
+pub mod Texts
+pub mod Usage

@@ -1,3 +1,5 @@
+//! The lines that commands print.
+
 ghost use Rattle.std.specs.Prelude.{◌≡◌, ◌++◌, IfOk, codes, decimal};
 ghost use Rattle.tow_server.specs.Lines as model;
 

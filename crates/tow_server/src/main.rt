@@ -1,36 +1,27 @@
-//! The program: the top call, which carries its promise, and the machine's streams, files and clock behind it.
+//! The program: its words are read, and a command is run over the machine. `run` carries the promise of every command.
 #![tactic(auto)]
 
-mod asking;
-mod checking;
-mod compiling;
-#[cfg(test)]
-mod handler_tests;
+mod ask;
+mod check;
+mod command;
 mod lines;
-mod loading;
-#[cfg(test)]
-mod predicate_tests;
-mod printing;
-mod refusing;
-mod running;
+mod output;
+mod refusal;
+mod site;
 mod status;
-mod streams;
-mod system;
 #[cfg(test)]
 mod tests;
-#[cfg(test)]
-mod text_tests;
-mod words;
+mod text;
 
-use running::run;
+use command::run;
 use status::Status;
 use std::alloc::{AllocError, Global};
 use std::env;
 use std::process::ExitCode;
 use std::rt::HostRuntime;
-use system::SystemHost;
+use tow_real::SystemHost;
 
-/// The words behind the program's name.
+/// The words after the program's name.
 fn words_of_program(rt: HostRuntime, alloc: Global) -> Result<Vec<String>, AllocError> {
     let mut words = Vec::new(alloc);
     let Ok(given) = env::args(&rt) else {

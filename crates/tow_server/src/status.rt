@@ -1,14 +1,11 @@
+//! How a command ends, and the exit status of the program.
+
 ghost use Rattle.std.specs.Prelude.{◌≡◌};
 ghost use Rattle.tow_server.specs.Codes.{code_of};
 
-/// Why the words are no command.
-#[derive(Clone, Copy, Debug, PartialEq, Eq)]
-pub enum Why {
-    /// There is no first word, or it is no command's name.
-    NoCommand,
-    /// The words after the command's name are of no form that it has.
-    BadWords,
-}
+use std::fmt;
+use std::fmt::{Display, Formatter};
+use tow_words::Why;
 
 /// How a command ended.
 #[derive(Clone, Copy, Debug, PartialEq, Eq)]
@@ -38,6 +35,19 @@ impl Status {
             Status::HostFault => 66,
             Status::NoMemory => 71,
             Status::StreamFault => 74,
+        }
+    }
+}
+
+impl Display for Status {
+    fn fmt<W: fmt::Write>(&self, formatter: &mut Formatter<W>) -> fmt::Result {
+        match self {
+            Status::Done => formatter.write_str("all was done"),
+            Status::Words(why) => Display::fmt(why, formatter),
+            Status::Text => formatter.write_str("the text is refused"),
+            Status::HostFault => formatter.write_str("the text could not be had or read"),
+            Status::NoMemory => formatter.write_str("the memory is short"),
+            Status::StreamFault => formatter.write_str("the input or the output failed"),
         }
     }
 }

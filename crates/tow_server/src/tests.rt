@@ -2,12 +2,17 @@
 
 ghost use Rattle.std.specs.Prelude.{◌≡◌, IfOk, true};
 
-use crate::running::run;
-use crate::status::{Status, Why};
+mod handlers;
+mod predicates;
+mod texts;
+
+use crate::command::run;
+use crate::status::Status;
 use std::alloc::{AllocError, Global};
 use std::test::Fail;
 use tow_host::{MemoryClock, MemoryHost, MemoryTexts, NamedText};
 use tow_link::{Joined, KeyCounts, MemoryMaker, MemorySink, MemorySource};
+use tow_words::Why;
 
 /// What a host has: the text `t`, the input, cut in two at a place, the patterns that it refuses as too large, and the
 /// numbers of the calls that fail.
