@@ -4,7 +4,6 @@ use Rattle.std.specs.Prelude.{IfSome}
 use Rattle.std.specs.Io.KnownBytes.{append_known}
 use Rattle.tow_model.specs.declared.limits.TheConstants.{MAX_TEXT_LEN}
 use Rattle.tow_link.specs.Data.{Told, SourceData, SinkData, Rose, raised}
-use Rattle.tow_link.specs.Counts.{count_at}
 use Rattle.tow_link.specs.Runs.{AppendsPart}
 use Rattle.tow_host.specs.Held.{Held, AsksText, Lends, with_text}
 use Rattle.tow_host.specs.Moments.{clock_table}
@@ -19,7 +18,7 @@ use Rattle.tow_server.specs.Ask.{Asked, AsksPart, is_walked}
 use Rattle.tow_server.specs.Check.{Checked, is_checked}
 use Rattle.tow_server.specs.Lines.{fault_line, line_for, ok_line, unbuilt_line}
 use Rattle.tow_server.specs.Steps.{AnswersInput, LacksSite, LacksText, LoadsText, OpensSite, RefusesFault, RefusesText, ReportsSite}
-use Rattle.tow_server.specs.Texts.{Compiles, HandsBack, IsNamed, IsRead, LeavesStreams, Prints, Refuses, ReturnsText, TextCallFailed, TextSourceFailed, UsesText}
+use Rattle.tow_server.specs.Texts.{Compiles, HandsBack, IsNamed, IsRead, Prints, Refuses, ReturnsText, TextCallFailed, UsesText}
 use Rattle.tow_server.specs.declared.status.Status.{Status}
 use Rattle.tow_server.specs.declared.status.Status.TheVariants.{Done, Words, Text, HostFault, NoMemory, StreamFault}
 use Rattle.tow_server.proofs.Completing.{completes}
