@@ -2,6 +2,7 @@
 
 ghost use Rattle.std.specs.Prelude.{◌≡◌, ◌<◌, IfOk, true};
 ghost use Rattle.std.specs.Option.{ForSome};
+ghost use Rattle.tow_model.specs.declared.limits.TheConstants.{FIRST_UNDATED};
 
 use super::*;
 use std::alloc::{AllocError, Global};
@@ -93,7 +94,7 @@ fn texts_of(alloc: Global, names: &[&str]) -> Result<(Vec<u8>, [u64; 4], Vec<u8>
 
 /// Reads all of the input, and writes it to the output.
 fn echo<H: Host>(alloc: Global, host: &mut H)
-    requires { H.is_home host.old ≡ true }
+    requires { (H.held host.old).is_home ≡ true }
 {
     let mut streams = host.lend();
     if let Whole::Bytes(bytes) = read_whole(alloc, &mut streams.input, 9) {
@@ -120,7 +121,7 @@ fn echoed(alloc: Global) -> Result<Option<(Vec<u8>, usize)>, AllocError> {
 
 /// The moments of the requests 1 and 2 of the connections 0 and 1.
 fn seconds<H: Host>(host: &mut H, moment: Option<u64>) -> [u64; 4]
-    requires { ForSome moment (λ second. second < 253402300800) }
+    requires { ForSome moment (λ second. second < FIRST_UNDATED) }
 {
     let mut clock = host.clock(moment);
     [
