@@ -25,7 +25,7 @@ pub short_is_not_bad : (f : Framing) (text : List ℕ) → IsShort f text → Is
 short_is_not_bad f text short bad =
     bad short.more [] short.given (record { text = text ++ short.more; is_content = short.is_content; joined = sym (append-nil (text ++ short.more)) })
 
-one_content : (f : Framing) (text : List ℕ) (c d : Content) → IsContent f text c → IsContent f text d → c ≡ d
+pub one_content : (f : Framing) (text : List ℕ) (c d : Content) → IsContent f text c → IsContent f text d → c ≡ d
 one_content f text c d is other =
     let one : HasContent f (text ++ []) c [] = record { text = text; is_content = is; joined = refl } in
     let two : HasContent f (text ++ []) d [] = record { text = text; is_content = other; joined = refl } in

@@ -17,7 +17,7 @@ use Rattle.tow_source.proofs.Ends.{short_is_not_over, one_end}
 -- ---- lists
 
 -- a text that two texts begin with, the shorter one of which it is
-front_of : (a b s t : List ℕ) → length a ≤ length b → a ++ s ≡ b ++ t → b ≡ a ++ drop (length a) b
+pub front_of : (a b s t : List ℕ) → length a ≤ length b → a ++ s ≡ b ++ t → b ≡ a ++ drop (length a) b
 front_of a b s t short e =
     sym (take-append-drop (length a) b)
     ∙ ap (λ (l : List ℕ). l ++ drop (length a) b)
@@ -94,11 +94,11 @@ says_end s piped to fits all = λ r is. (
 )
 
 -- what was moved is so much of what there is
-moved_count : (count most : ℕ) (piped piped' : Buffer ℕ) (to to' : List ℕ) → Moves count most piped piped' to to'
+pub moved_count : (count most : ℕ) (piped piped' : Buffer ℕ) (to to' : List ℕ) → Moves count most piped piped' to to'
     → (count ≤ most) × (count ≤ length piped.items) × (count ≤ length to)
 moved_count count most piped piped' to to' m = (omega (arith, m.all), omega (arith, m.all), omega (arith, m.all))
 
-moved_none : (most : ℕ) (piped piped' : Buffer ℕ) (to to' : List ℕ) → Moves 0 most piped piped' to to' → 0 < most
+pub moved_none : (most : ℕ) (piped piped' : Buffer ℕ) (to to' : List ℕ) → Moves 0 most piped piped' to to' → 0 < most
     → 0 < length to → (piped.items ≡ []) × (piped' ≡ piped)
 moved_none most piped piped' to to' m some room =
     let none : length piped.items ≡ 0 = omega (arith, m.all, some, room) in

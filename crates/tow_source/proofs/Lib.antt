@@ -1,3 +1,10 @@
 mod Ends
 mod FixedAnswers
 mod Dropping
+mod Runs
+mod Standing
+mod SizeSteps
+mod LaterSteps
+mod WholeRuns
+mod ChunkedEnds
+mod ChunkedAnswers

@@ -1,3 +1,5 @@
 pub mod Readings
 pub mod Moves
 pub mod FixedReading
+pub mod Places
+pub mod ChunkedReading

@@ -1,3 +1,4 @@
+mod chunked;
 mod drains;
 mod fixed;
 mod reading;

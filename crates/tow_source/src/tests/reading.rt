@@ -19,6 +19,22 @@ pub fn read_in_pieces<S: BodySource>(
     Ok(answer)
 }
 
+/// Reads from a text that comes in two pieces, the first of so many bytes.
+pub fn read_cut<S: BodySource>(
+    source: &mut S,
+    pipe: &mut Pipe,
+    text: &[u8],
+    cut: usize,
+    to: &mut [u8],
+    given: &mut Vec<u8>,
+) -> Result<Body, AllocError> {
+    let (front, rest) = text.split_at(cut.min(text.len()));
+    pipe.put(front);
+    let _ = read_on(source, pipe, to, given)?;
+    pipe.put(rest);
+    read_on(source, pipe, to, given)
+}
+
 // Reads until an answer gives no bytes.
 fn read_on<S: BodySource>(
     source: &mut S,
