@@ -1,4 +1,6 @@
+pub mod Faults
 pub mod Held
+pub mod Logs
 pub mod Memory
 pub mod Moments
 pub mod Texts

@@ -1,17 +1,22 @@
-//! What the server asks of the machine that it runs on: texts by name, clocks, and the streams that a command reads
-//! and prints through. `Host` says what each call gives and leaves as plain data; `MemoryHost` tells all of it.
+//! What the server asks of the machine that it runs on: texts by name, clocks, logs, and the streams that a command
+//! reads and prints through. `Host` says what each call gives and leaves as plain data; `MemoryHost` tells all of it.
+//! No host gives logs so far.
 #![tactic(auto)]
 
 mod clock;
 mod host;
+mod log_sink;
 mod memory_clock;
 mod memory_host;
+mod memory_log;
 mod memory_texts;
 
 pub use clock::Clock;
 pub use host::{Host, HostFault, Kept};
+pub use log_sink::{LogSink, Put};
 pub use memory_clock::{MemoryClock, MomentAt};
 pub use memory_host::MemoryHost;
+pub use memory_log::MemoryLog;
 pub use memory_texts::{MemoryTexts, NamedText};
 
 #[cfg(test)]

@@ -190,3 +190,64 @@ fn a_host_makes_patterns(rt: HostRuntime) -> Result<(), Fail> {
     assert_eq!(rt; larges, 1);
     Ok(())
 }
+
+/// Puts lines, each of a connection, a request and a log, and says of each whether it was stored.
+fn put_all<L: LogSink>(
+    alloc: Global,
+    log: &mut L,
+    lines: &[(u32, u32, u32, &[u8])],
+) -> Result<Vec<bool>, AllocError> {
+    let mut stored = Vec::new(alloc);
+    for (k, j, number, line) in lines {
+        stored.push(log.put(*k, *j, *number, line) == Put::Stored)?;
+    }
+    Ok(stored)
+}
+
+/// The lines of a log as `k j number text`, each with its line end.
+fn told(alloc: Global, log: &MemoryLog) -> Result<Vec<u8>, AllocError> {
+    let mut out = Vec::new(alloc);
+    for line in log.lines() {
+        let (k, j, number) = (line.connection, line.request, line.number);
+        out.extend_from_slice(format!(in alloc; "{k} {j} {number} ")?.as_bytes())?;
+        out.extend_from_slice(line.text.as_slice())?;
+        out.push(b'\n')?;
+    }
+    Ok(out)
+}
+
+/// Lines of two connections, of which the second is to fail.
+const LINES: [(u32, u32, u32, &[u8]); 4] = [
+    (0, 1, 1, b"b 204"),
+    (7, 1, 0, b"a 204"),
+    (0, 2, 1, b""),
+    (0, 2, 0, b"a 404"),
+];
+
+/// What a log whose second put fails says, holds and has refused.
+fn logged(alloc: Global) -> Result<(Vec<bool>, Vec<u8>, Vec<u32>), AllocError> {
+    let mut log = MemoryLog::new(alloc, [1].to_vec(alloc)?);
+    let stored = put_all(alloc, &mut log, &LINES)?;
+    let lines = told(alloc, &log)?;
+    Ok((stored, lines, log.refused().to_vec(alloc)?))
+}
+
+#[test]
+fn a_log_holds_what_it_stored(rt: HostRuntime) -> Result<(), Fail> {
+    let (stored, lines, refused) = logged(rt.alloc())?;
+    assert_eq!(rt; stored.as_slice(), [true, false, true, true].as_slice());
+    assert_eq!(rt;
+        lines.as_slice(),
+        b"0 1 1 b 204\n0 2 1 \n0 2 0 a 404\n".as_slice()
+    );
+    assert_eq!(rt; refused.as_slice(), [7].as_slice());
+    Ok(())
+}
+
+#[test]
+fn a_new_log_is_empty(rt: HostRuntime) {
+    let alloc = rt.alloc();
+    let log = MemoryLog::new(alloc, Vec::new(alloc));
+    assert_eq!(rt; log.lines().len(), 0);
+    assert_eq!(rt; log.unnoted(), 0);
+}
