@@ -1,0 +1,9 @@
+pub mod CallLists
+pub mod OneLimit
+pub mod Steps
+pub mod Passing
+pub mod Asks
+pub mod Gather
+pub mod Woven
+pub mod InOrder
+pub mod Closes
