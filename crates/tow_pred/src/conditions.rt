@@ -20,7 +20,7 @@ use tow_text::{bind, copied_field, is_among};
 
 /// Whether the test holds. What it binds stands in the context from then on. If memory is short, nothing but the context may
 /// have changed.
-pub(crate) fn passes(
+pub fn passes(
     alloc: Global,
     scratch: &mut Scratch<'_>,
     test: &Test,

@@ -26,6 +26,7 @@ mod tests;
 mod values;
 
 pub use building::build;
+pub use conditions::passes;
 pub use fault::PatternFault;
 pub use patterns::Tests;
 pub use predicates::holds;
