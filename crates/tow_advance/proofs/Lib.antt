@@ -1,0 +1,5 @@
+pub mod Plans
+pub mod Dispatched
+pub mod Among
+pub mod Nearing
+pub mod Asked

@@ -1,0 +1,15 @@
+use Rattle.std.proofs.Common.{◌≡◌}
+use Rattle.tow_advance.specs.Moves.{left_of}
+use Rattle.tow_advance.specs.Under.{plan_in}
+use Rattle.tow_advance.proofs.walking.advance.Given as goal
+
+-- The plan of the exchange is the one with which the call began, and so are its numbers, its request and its moment.
+abbrev pub invariant-loop-exchange : goal.invariant-loop-exchange
+invariant-loop-exchange l =
+    (plan_in l.program l.exchange ≡ plan_in l.program l.initial.exchange)
+    × (l.exchange.connection ≡ l.initial.exchange.connection) × (l.exchange.number ≡ l.initial.exchange.number)
+    × (l.exchange.request ≡ l.initial.exchange.request) × (l.exchange.moment ≡ l.initial.exchange.moment)
+    × (l.scratch ≡ l.initial.scratch)
+
+abbrev pub decreases-loop-exchange : goal.decreases-loop-exchange
+decreases-loop-exchange l = left_of l.program l.exchange

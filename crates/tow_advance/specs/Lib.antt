@@ -1,0 +1,4 @@
+pub mod Under
+pub mod Needs
+pub mod Moves
+pub mod Knowing

@@ -1,0 +1,102 @@
+//! The loop over the instructions.
+
+ghost use Rattle.std.specs.Prelude.{◌≡◌, ◌≢◌, ◌<◌, ◌↔◌, Bool, IsTrue, OnErr, OnOk, ℕ};
+ghost use Rattle.tow_model.specs.Dates.{first_undated};
+ghost use Rattle.tow_model.specs.Texts.{Text};
+ghost use Rattle.tow_semantics.specs.Predicates.{AreAmong};
+ghost use Rattle.tow_advance.specs.Knowing.{program_patterns};
+ghost use Rattle.tow_advance.specs.Moves.{Stepped, with_context};
+ghost use Rattle.tow_advance.specs.Needs.{IsUnderWay, need_in};
+ghost use Rattle.tow_advance.specs.Under.{plan_in};
+
+use crate::need::{hands_on, need};
+use crate::next::Next;
+use crate::steps::take;
+use std::alloc::Global;
+use tow_exchange::{Exchange, Phase, Place};
+use tow_model::{NoMemory, Role};
+use tow_pred::Scratch;
+use tow_program::Program;
+
+/// Goes on with an exchange until it needs something, which the role decides with its plan. Its plan stays the same, so that
+/// the steps of a walk may be split between roles in any way. Takes memory for values, bindings and what actions write; if
+/// it is short, the listeners are those that were added so far.
+pub fn advance(
+    alloc: Global,
+    scratch: &mut Scratch<'_>,
+    program: &Program,
+    exchange: &mut Exchange,
+    role: Role,
+) -> Next
+    requires dated { exchange.old.moment < first_undated }
+    requires among { AreAmong (program_patterns program.now) scratch.old }
+    ensures need { result ≢ Next.NoMemory → result ≡ need_in program.now role exchange.old }
+    ensures plan { result ≢ Next.NoMemory
+        → plan_in program.now exchange.new ≡ plan_in program.now exchange.old }
+    ensures stop { result ≡ Next.Stop → exchange.new.phase ≡ Phase.Stopped }
+    ensures limit { (limit : ℕ) → result ≡ Next.AskLimit limit
+        → exchange.new.phase ≡ Phase.AwaitsVerdict limit }
+    ensures content { result ≡ Next.NeedContent → exchange.new.phase ≡ Phase.AwaitsContent }
+    ensures page { (location : Text) (listing : Bool) → result ≡ Next.NeedFolder location listing
+        → exchange.new.phase ≡ Phase.AwaitsPage location listing }
+    ensures no_memory { result ≡ Next.NoMemory
+        → IsUnderWay program.now exchange.old exchange.new }
+    ensures connection { exchange.new.connection ≡ exchange.old.connection }
+    ensures number { exchange.new.number ≡ exchange.old.number }
+    ensures request { exchange.new.request ≡ exchange.old.request }
+    ensures moment { exchange.new.moment ≡ exchange.old.moment }
+    ensures scratch { scratch.new ≡ scratch.old }
+{
+    if is_stopped(exchange) {
+        return Next::Stop;
+    }
+    loop {
+        if !is_running(exchange) {
+            return need(alloc, exchange, role);
+        }
+        if hands_on(role, exchange.dispatch().is_for_worker()) {
+            return Next::NeedWorker;
+        }
+        if let Err(NoMemory) = step(alloc, scratch, program, exchange) {
+            return Next::NoMemory;
+        }
+    }
+}
+
+/// Whether the exchange waits for nothing and has no answer yet.
+fn is_running(exchange: &Exchange) -> bool
+    ensures { IsTrue result ↔ (exchange.now.phase ≡ Phase.Running) }
+{
+    matches!(exchange.phase(), Phase::Running)
+}
+
+/// Whether the exchange has its answer.
+fn is_stopped(exchange: &Exchange) -> bool
+    ensures { IsTrue result ↔ (exchange.now.phase ≡ Phase.Stopped) }
+{
+    matches!(exchange.phase(), Phase::Stopped)
+}
+
+/// Goes on by one step, which leaves its plan. Takes memory as `take` does.
+fn step(
+    alloc: Global,
+    scratch: &mut Scratch<'_>,
+    program: &Program,
+    exchange: &mut Exchange,
+) -> Result<(), NoMemory>
+    requires dated { exchange.old.moment < first_undated }
+    requires among { AreAmong (program_patterns program.now) scratch.old }
+    requires running { exchange.old.phase ≡ Phase.Running }
+    ensures ok { OnOk result (Stepped program.now exchange.old exchange.new) }
+    ensures err { OnErr result (exchange.new
+        ≡ with_context exchange.new.stand.state.context exchange.old) }
+    ensures scratch { scratch.new ≡ scratch.old }
+{
+    match exchange.place() {
+        Place::InText(at) => take(alloc, scratch, program, exchange, at),
+        Place::AtDefault => {
+            exchange.stop_with(404);
+            Ok(())
+        }
+    }
+}
