@@ -1,6 +1,6 @@
 //! Exchanges from their beginning to their last listener.
 
-ghost use Rattle.std.specs.Prelude.{◌≡◌};
+ghost use Rattle.std.specs.Prelude.{◌≡◌, IfOk};
 ghost use Rattle.tow_exchange.specs.Exchanges.{with_state};
 
 use crate::{Completed, Dispatch, Exchange, Phase, Place};
@@ -15,29 +15,37 @@ use tow_model::{
 
 const MOMENT: u64 = 784_111_777;
 
-fn request(alloc: Global, path: &[u8], query: &[u8]) -> Result<Request, AllocError> {
+fn no_bytes(alloc: Global) -> Bytes {
+    Bytes::from_vec(Vec::new(alloc))
+}
+
+fn request(alloc: Global) -> Result<Request, AllocError> {
+    let path = Bytes::from_slice(alloc, b"/a")?;
+    let query = Bytes::from_slice(alloc, b"x=1")?;
     Ok(Request {
-        method: Bytes::from_slice(alloc, b"GET")?,
-        target: Bytes::from_slice(alloc, path)?,
+        method: no_bytes(alloc),
+        target: no_bytes(alloc),
         version: Version::V11,
         fields: List::new(alloc),
-        url: Bytes::from_slice(alloc, path)?,
-        path: Bytes::from_slice(alloc, path)?,
-        query: Some(Bytes::from_slice(alloc, query)?),
+        url: no_bytes(alloc),
+        path,
+        query: Some(query),
         framing: Framing::Empty,
         expects: false,
         keep: true,
-        peer: 0x7F00_0001,
+        peer: 0,
     })
 }
 
-fn opened(alloc: Global) -> Result<Exchange, NoMemory> {
-    let request = request(alloc, b"/a", b"x=1")?;
+fn opened(alloc: Global) -> Result<Exchange, NoMemory>
+    ensures { IfOk result (λ exchange. exchange.phase ≡ Phase.Running) }
+{
+    let request = request(alloc)?;
     Exchange::new(alloc, 3, 2, request, MOMENT)
 }
 
 /// Listeners in the order in which they are added.
-const ADDED: [&[Listener]; 5] = [
+const ADDED: &[&[Listener]] = &[
     &[],
     &[Listener::Log(0)],
     &[Listener::Leave(0), Listener::Log(0), Listener::Leave(1)],
@@ -51,27 +59,53 @@ const ADDED: [&[Listener]; 5] = [
     ],
 ];
 
+fn add_all(
+    alloc: Global,
+    exchange: &mut Exchange,
+    listeners: &[Listener],
+) -> Result<(), NoMemory> {
+    for listener in listeners {
+        exchange.add_listener(alloc, *listener)?;
+    }
+    Ok(())
+}
+
 /// The exchange with these listeners, completed.
 fn completed(alloc: Global, added: &[Listener]) -> Result<Completed, NoMemory> {
     let mut exchange = opened(alloc)?;
-    for listener in added {
-        exchange.add_listener(alloc, *listener)?;
-    }
+    add_all(alloc, &mut exchange, added)?;
     Ok(exchange.complete())
+}
+
+fn expect_runs(rt: &impl Abort, completed: &mut Completed, added: &[Listener]) {
+    for listener in added.iter().rev() {
+        assert_eq!(rt; completed.next(), Some(*listener));
+    }
+}
+
+fn expect_ended(rt: &impl Abort, completed: &mut Completed) {
+    assert_eq!(rt; completed.next(), None);
+    assert_eq!(rt; completed.next(), None);
+}
+
+fn expect_once(rt: &impl Abort, alloc: Global, added: &[Listener]) -> Result<(), Fail> {
+    let mut completed = completed(alloc, added)?;
+    expect_runs(rt, &mut completed, added);
+    expect_ended(rt, &mut completed);
+    assert_eq!(rt; completed.state().listeners.as_slice(), added);
+    Ok(())
+}
+
+fn expect_each_once(rt: &impl Abort, alloc: Global, rows: &[&[Listener]]) -> Result<(), Fail> {
+    for added in rows {
+        expect_once(rt, alloc, added)?;
+    }
+    Ok(())
 }
 
 #[test]
 fn each_listener_runs_once_last_added_first(rt: HostRuntime) -> Result<(), Fail> {
-    for added in &ADDED {
-        let mut completed = completed(rt.alloc(), added)?;
-        for listener in added.iter().rev() {
-            assert_eq!(rt; completed.next(), Some(*listener));
-        }
-        assert_eq!(rt; completed.next(), None);
-        assert_eq!(rt; completed.next(), None);
-        assert_eq!(rt; completed.state().listeners.as_slice(), *added);
-    }
-    Ok(())
+    expect_each_once(&rt, rt.alloc(), ADDED)
 }
 
 #[test]
@@ -98,15 +132,19 @@ fn expect_place(rt: &impl Abort, exchange: &Exchange, place: Place, left: usize)
     assert_eq!(rt; exchange.restarts_left(), left);
 }
 
+fn expect_request(rt: &impl Abort, exchange: &Exchange) {
+    assert_eq!(rt; exchange.request().path.as_slice(), b"/a".as_slice());
+    assert_eq!(rt; exchange.connection(), 3);
+    assert_eq!(rt; exchange.number(), 2);
+    assert_eq!(rt; exchange.moment(), MOMENT);
+}
+
 #[test]
 fn an_exchange_begins_with_its_request(rt: HostRuntime) -> Result<(), Fail> {
     let exchange = opened(rt.alloc())?;
     expect_beginning(&rt, exchange.state());
     expect_place(&rt, &exchange, Place::InText(0), MAX_RESTARTS);
-    assert_eq!(rt; exchange.request().url.as_slice(), b"/a".as_slice());
-    assert_eq!(rt; exchange.connection(), 3);
-    assert_eq!(rt; exchange.number(), 2);
-    assert_eq!(rt; exchange.moment(), MOMENT);
+    expect_request(&rt, &exchange);
     assert!(rt; matches!(exchange.phase(), Phase::Running));
     Ok(())
 }
@@ -120,7 +158,9 @@ enum Given {
 }
 
 /// What is given; then the status, whether it is stopped, and the listeners.
-const GIVEN: [(Given, u16, bool, &[Listener]); 5] = [
+type Row = (Given, u16, bool, &'static [Listener]);
+
+const GIVEN: &[Row] = &[
     (
         Given::Verdict(Verdict::Admitted),
         200,
@@ -163,9 +203,7 @@ fn after_wait(alloc: Global, given: &Given) -> Result<Exchange, NoMemory> {
     if let Given::Verdict(verdict) = given {
         exchange.await_verdict(alloc, 5, Place::InText(1))?;
         exchange.add_listener(alloc, Listener::Log(1))?;
-        if let Phase::AwaitsVerdict(5) = exchange.phase() {
-            exchange.give_verdict(*verdict);
-        }
+        exchange.give_verdict(*verdict);
         return Ok(exchange);
     }
     let content = content(alloc, given)?;
@@ -175,16 +213,26 @@ fn after_wait(alloc: Global, given: &Given) -> Result<Exchange, NoMemory> {
     Ok(exchange)
 }
 
-#[test]
-fn an_exchange_goes_on_by_what_it_is_given(rt: HostRuntime) -> Result<(), Fail> {
-    for (what, status, stopped, listeners) in &GIVEN {
-        let exchange = after_wait(rt.alloc(), what)?;
-        assert_eq!(rt; exchange.state().status, *status);
-        assert_eq!(rt; matches!(exchange.phase(), Phase::Stopped), *stopped);
-        assert_eq!(rt; exchange.state().listeners.as_slice(), *listeners);
-        assert_eq!(rt; exchange.place(), Place::InText(1));
+fn expect_goes_on(rt: &impl Abort, alloc: Global, row: &Row) -> Result<(), Fail> {
+    let (given, status, stopped, listeners) = row;
+    let exchange = after_wait(alloc, given)?;
+    assert_eq!(rt; exchange.state().status, *status);
+    assert_eq!(rt; matches!(exchange.phase(), Phase::Stopped), *stopped);
+    assert_eq!(rt; exchange.state().listeners.as_slice(), *listeners);
+    assert_eq!(rt; exchange.place(), Place::InText(1));
+    Ok(())
+}
+
+fn expect_each_goes_on(rt: &impl Abort, alloc: Global, rows: &[Row]) -> Result<(), Fail> {
+    for row in rows {
+        expect_goes_on(rt, alloc, row)?;
     }
     Ok(())
+}
+
+#[test]
+fn an_exchange_goes_on_by_what_it_is_given(rt: HostRuntime) -> Result<(), Fail> {
+    expect_each_goes_on(&rt, rt.alloc(), GIVEN)
 }
 
 // What a step of a text writes is all that changes.
@@ -217,18 +265,30 @@ fn a_blocking_dispatches_to_a_worker(rt: HostRuntime) -> Result<(), Fail> {
     Ok(())
 }
 
+fn expect_restart(rt: &impl Abort, alloc: Global, exchange: &mut Exchange) {
+    exchange.go_to(Place::InText(4));
+    exchange.begin_again(alloc);
+    assert_eq!(rt; exchange.state().status, 200);
+}
+
+fn expect_restarts(rt: &impl Abort, alloc: Global, exchange: &mut Exchange, count: usize) {
+    for _ in 0..count {
+        expect_restart(rt, alloc, exchange);
+    }
+}
+
+fn expect_answered_500(rt: &impl Abort, exchange: &Exchange) {
+    assert_eq!(rt; exchange.state().status, 500);
+    assert!(rt; matches!(exchange.phase(), Phase::Stopped));
+}
+
 #[test]
 fn the_seventeenth_restart_is_answered_500(rt: HostRuntime) -> Result<(), Fail> {
     let mut exchange = opened(rt.alloc())?;
-    for _ in 0..MAX_RESTARTS {
-        exchange.go_to(Place::InText(4));
-        exchange.begin_again(rt.alloc());
-        assert_eq!(rt; exchange.state().status, 200);
-    }
+    expect_restarts(&rt, rt.alloc(), &mut exchange, MAX_RESTARTS);
     expect_place(&rt, &exchange, Place::InText(0), 0);
     exchange.begin_again(rt.alloc());
-    assert_eq!(rt; exchange.state().status, 500);
-    assert!(rt; matches!(exchange.phase(), Phase::Stopped));
+    expect_answered_500(&rt, &exchange);
     Ok(())
 }
 
