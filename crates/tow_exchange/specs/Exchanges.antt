@@ -1,19 +1,18 @@
 -- What contracts see of an exchange, and how it goes on.
-use Rattle.std.specs.Prelude.{ℕ, zero, suc, List, [], ◌∷◌, ◌++◌}
+use Rattle.std.specs.Prelude.{ℕ, zero, suc}
 use Rattle.tow_model.specs.declared.request.Request.{Request}
 use Rattle.tow_model.specs.declared.record.Record.{Record}
 use Rattle.tow_model.specs.declared.account.Verdict.{Verdict}
 use Rattle.tow_model.specs.declared.action.Action.{Action}
 use Rattle.tow_model.specs.declared.content.Content.{Content}
 use Rattle.tow_model.specs.declared.limits.TheConstants.{MAX_RESTARTS}
-use Rattle.tow_model.specs.Texts.{Text}
 use Rattle.tow_semantics.specs.Steps.{Step, Go, Stop, answered, on_verdict, on_content}
 use Rattle.tow_semantics.specs.Pages.{Found, on_found}
 use Rattle.tow_semantics.specs.Plans.{Mark, Free, Passed, Worked, Stand, moved, marked, after_step, without_context, opening_stand}
 use Rattle.tow_exchange.specs.declared.dispatch.Dispatch.{Dispatch}
 use Rattle.tow_exchange.specs.declared.dispatch.Dispatch.TheVariants as dispatch
 use Rattle.tow_exchange.specs.declared.phase.Phase.{Phase}
-use Rattle.tow_exchange.specs.declared.phase.Phase.TheVariants.{Running, AwaitsVerdict, AwaitsContent, AwaitsPage, Stopped}
+use Rattle.tow_exchange.specs.declared.phase.Phase.TheVariants.{Running, Stopped}
 use Rattle.tow_exchange.specs.declared.place.Place.{Place}
 use Rattle.tow_exchange.specs.declared.place.Place.TheVariants.{InText, AtDefault}
 
