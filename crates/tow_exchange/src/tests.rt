@@ -59,11 +59,7 @@ const ADDED: &[&[Listener]] = &[
     ],
 ];
 
-fn add_all(
-    alloc: Global,
-    exchange: &mut Exchange,
-    listeners: &[Listener],
-) -> Result<(), NoMemory> {
+fn add_all(alloc: Global, exchange: &mut Exchange, listeners: &[Listener]) -> Result<(), NoMemory> {
     for listener in listeners {
         exchange.add_listener(alloc, *listener)?;
     }
