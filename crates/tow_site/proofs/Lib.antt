@@ -6,3 +6,4 @@ pub mod Naming
 pub mod Numbering
 pub mod Faulting
 pub mod Sites
+pub mod Searching

@@ -1,4 +1,5 @@
 pub mod Built
 pub mod Compiled
 pub mod Decided
+pub mod Formats
 pub mod Walking

@@ -7,6 +7,7 @@ mod built;
 mod compiling;
 mod default;
 mod fault;
+mod formats;
 mod outcomes;
 mod places;
 mod refusing;

@@ -1,11 +1,13 @@
 //! What a handlers text is once it compiled.
 
-ghost use Rattle.std.specs.Prelude.{◌≡◌, length, IfOk};
+ghost use Rattle.std.specs.Prelude.{◌≡◌, ◌<◌, ◌↔◌, IsTrue, length, IfOk};
+ghost use Rattle.tow_semantics.specs.Listeners.{at_number, formats_of};
 ghost use Rattle.tow_pred.specs.Numbering.{IsNumbered};
 ghost use Rattle.tow_site.specs.Compiled.{pattern_texts};
 
+use crate::formats::format_at;
 use std::marker::Model;
-use tow_model::{List, NoMemory, Tree};
+use tow_model::{List, NoMemory, Template, Tree};
 use tow_pred::Tests;
 
 /// A handlers text that compiled. Contracts see its tree and the offsets of its patterns' values.
@@ -71,6 +73,27 @@ impl Site {
         ensures { result.now ≡ pattern_texts self.now.tree }
     {
         &self.tests
+    }
+
+    /// Whether the text has an access log of this number, from 0. Takes no memory.
+    pub fn has_log(&self, number: u32) -> bool
+        ensures { IsTrue result ↔ (number < length (formats_of self.now.tree)) }
+    {
+        match format_at(self.tree.as_slice(), number) {
+            Ok(_) => true,
+            Err(_) => false,
+        }
+    }
+
+    /// The format of the access log of this number, in the order of the text from 0, which the text has. Takes no memory.
+    pub fn format(&self, number: u32) -> &Template
+        requires { number < length (formats_of self.now.tree) }
+        ensures { result.now ≡ at_number number (formats_of self.now.tree) }
+    {
+        match format_at(self.tree.as_slice(), number) {
+            Ok(format) => format,
+            Err(_) => unreachable!(),
+        }
     }
 
     /// The offset of each pattern's value, in the order of the text.

@@ -1,4 +1,5 @@
 //! Texts with their faults, and what texts come to for a request.
 
 mod compiled;
+mod formats;
 mod outcomes;
