@@ -34,8 +34,7 @@ fn site(alloc: Global, text: &[u8]) -> Result<Site, Fail> {
 
 fn expect_literal(rt: &impl Abort, format: &Template, want: &[u8], number: usize) {
     assert_eq!(rt; format.len(), 1, "row {number}");
-    assert!(
-        rt;
+    assert!(rt;
         matches!(format.get(0), Some(Piece::Literal(bytes)) if bytes.as_slice() == want),
         "row {number}"
     );
