@@ -1,0 +1,12 @@
+pub mod Lists
+pub mod Told
+pub mod Words
+pub mod Brings
+pub mod Seats
+pub mod Moves
+pub mod Seeing
+pub mod Claims
+pub mod Publishes
+pub mod Opening
+pub mod Dealing
+pub mod Pointing
