@@ -2,3 +2,4 @@ pub mod Completing
 pub mod Joining
 pub mod Making
 pub mod Naming
+pub mod Wording

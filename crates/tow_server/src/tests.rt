@@ -244,9 +244,11 @@ fn each_cut_gives_the_same_bytes(rt: HostRuntime) -> Result<(), Fail> {
 #[test]
 fn words_are_read(rt: HostRuntime) -> Result<(), Fail> {
     let alloc = rt.alloc();
-    let rows: [(&[&str], Why); 11] = [
+    let rows: [(&[&str], Why); 13] = [
         (&[], Why::NoCommand),
         (&["drill", "0"], Why::NoCommand),
+        (&["drill", "1001"], Why::BadWords),
+        (&["serve", "d", "t"], Why::BadWords),
         (&["check"], Why::BadWords),
         (&["check", "t", "u"], Why::BadWords),
         (&["serve", "d", "t", "127.0.0.1:80"], Why::NoCommand),
@@ -259,7 +261,7 @@ fn words_are_read(rt: HostRuntime) -> Result<(), Fail> {
             Why::BadWords,
         ),
         (
-            &["ask", "d", "t", "--moment", "0000000000001"],
+            &["ask", "d", "--moment=1", "t", "--moment=1"],
             Why::BadWords,
         ),
     ];
@@ -268,7 +270,7 @@ fn words_are_read(rt: HostRuntime) -> Result<(), Fail> {
         assert_eq!(rt; status, Status::Words(why));
         assert_eq!(rt; written.as_slice(), USAGE);
     }
-    let last = ["ask", "d", "t", "--moment", "253402300799"];
+    let last = ["ask", "--moment=253402300799", "d", "t"];
     let (status, written) = answered(alloc, &plain(HI, GET_HI), &last)?;
     assert_eq!(rt; status, Status::Done);
     assert_eq!(rt;

@@ -1,1 +1,4 @@
-pub mod Numbers
+pub mod Answering
+pub mod Giving
+pub mod Places
+pub mod Reading

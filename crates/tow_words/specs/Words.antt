@@ -1,71 +1,95 @@
 -- What the words of a command line ask for.
-use Rattle.std.specs.Prelude.{ℕ, ◌+◌, ◌-◌, ◌*◌, ◌<◌, ◌&&◌, nat_le, nat_lt, List, [], ◌∷◌, length, fold, map, string_bytes, Option, Some, None, Result, Ok, Err, codes, bytes_eq, if◌then◌else◌}
+use Rattle.std.specs.Prelude.{◌<◌, ◌≤◌, ℕ, List, [], ◌∷◌, Option, Some, None, Result, Ok, Err, codes, bytes_eq, if◌then◌else◌}
 use Rattle.std.specs.Option.{ForSome}
-use Rattle.std.specs.List.{list_all}
-use Rattle.std.specs.Char.{is_ascii_digit}
+use Rattle.clap.specs.Walk.{Row, Text}
+use Rattle.clap.specs.Simple.{App, matches_of}
 use Rattle.tow_model.specs.declared.limits.TheConstants.{FIRST_UNDATED}
+use Rattle.tow_words.specs.Forms as forms
+use Rattle.tow_words.specs.Given.{has_matches, number_given, number_or, text_given}
+use Rattle.tow_words.specs.declared.bounds.TheConstants.{DEFAULT_CONNECTIONS, DEFAULT_LOOPS, DEFAULT_SLOTS, DEFAULT_WORKERS, MAX_CONNECTIONS, MAX_DRILL, MAX_LOOPS, MAX_SLOTS, MAX_WORKERS}
 use Rattle.tow_words.specs.declared.command.Command.{Command}
-use Rattle.tow_words.specs.declared.command.Command.TheVariants.{Check, Ask}
+use Rattle.tow_words.specs.declared.command.Command.TheVariants.{Check, Ask, Drill, Serve}
+use Rattle.tow_words.specs.declared.command.Options.{Options}
 use Rattle.tow_words.specs.declared.command.Why.{Why}
 use Rattle.tow_words.specs.declared.command.Why.TheVariants.{NoCommand, BadWords}
 use Rattle.tow_words.specs.declared.words.Words.{Words}
-use Rattle.tow_words.specs.declared.words.Words.TheVariants.{Run, Usage}
+use Rattle.tow_words.specs.declared.words.Words.TheVariants.{Run, Usage, NoMemory}
 
--- a command with its arguments, as plain data: `check TEXT`, and `ask DIR TEXT` at a moment or at those of the clock
+-- a command with its arguments, as plain data: `check TEXT`, `ask DIR TEXT` at a moment or at those of the clock, `drill N`, and
+-- `serve DIR TEXT ADDRESS`
 pub data CommandData : Type 0 where
-  check : List ℕ → CommandData
-  ask : List ℕ → List ℕ → Option ℕ → CommandData
+  check : Text → CommandData
+  ask : Text → Text → Option ℕ → CommandData
+  drill : ℕ → CommandData
+  serve : Text → Text → Text → Options → CommandData
 
 -- what a command is as plain data
 abbrev pub command_seen : Command → CommandData
 command_seen (Check text) = check text.now
 command_seen (Ask dir text moment) = ask dir.now text.now moment
+command_seen (Drill number) = drill number
+command_seen (Serve dir text address options) = serve dir.now text.now address.now options
 
--- a command, or why the words are none
-abbrev pub words_seen : Words → Result CommandData Why
-words_seen (Run command) = Ok (command_seen command)
-words_seen (Usage why) = Err why
+-- a command, or why the words are none; nothing where memory was short
+abbrev pub words_seen : Words → Option (Result CommandData Why)
+words_seen (Run command) = Some (Ok (command_seen command))
+words_seen (Usage why) = Some (Err why)
+words_seen NoMemory = None
 
--- a moment that is given lies before the year 10000
-abbrev pub IsDated : Words → Type 0
-IsDated (Run (Check text)) = Unit {0}
-IsDated (Run (Ask dir text moment)) = ForSome moment (λ second. second < FIRST_UNDATED)
-IsDated (Usage why) = Unit {0}
+-- the options are within their bounds
+pub record AreWithin (options : Options) : Type 0 where
+  pub loops : (1 ≤ options.loops) × (options.loops ≤ MAX_LOOPS)
+  pub workers : (1 ≤ options.workers) × (options.workers ≤ MAX_WORKERS)
+  pub slots : (1 ≤ options.slots) × (options.slots ≤ MAX_SLOTS)
+  pub connections : options.connections ≤ MAX_CONNECTIONS
 
--- a number with one more digit
-abbrev pub with_digit : ℕ → ℕ → ℕ
-with_digit n digit = 10 * n + (digit - 48)
+-- each number of the command is within its bounds: a moment lies before the year 10000
+abbrev pub IsWithin : Command → Type 0
+IsWithin (Check text) = Unit {0}
+IsWithin (Ask dir text moment) = ForSome moment (λ second. second < FIRST_UNDATED)
+IsWithin (Drill number) = number ≤ MAX_DRILL
+IsWithin (Serve dir text address options) = AreWithin options
 
--- digits as a number, in decimal
-abbrev pub number_of : List ℕ → ℕ
-number_of digits = fold with_digit 0 digits
+abbrev pub IsWithinIfRun : Words → Type 0
+IsWithinIfRun (Run command) = IsWithin command
+IsWithinIfRun (Usage why) = Unit {0}
+IsWithinIfRun NoMemory = Unit {0}
 
--- a number that is a second before the year 10000
-abbrev pub second_of : List ℕ → Option ℕ
-second_of digits = if nat_lt (number_of digits) FIRST_UNDATED then Some (number_of digits) else None
+-- the options by the words that were given, and the defaults of the others
+abbrev pub options_of : List Row → Options
+options_of rows = record {
+  loops = number_or DEFAULT_LOOPS (codes "loops") rows;
+  workers = number_or DEFAULT_WORKERS (codes "workers") rows;
+  slots = number_or DEFAULT_SLOTS (codes "slots") rows;
+  connections = number_or DEFAULT_CONNECTIONS (codes "connections") rows;
+}
 
--- 1 to 12 digits, of such a second
-abbrev pub moment_of : List ℕ → Option ℕ
-moment_of word =
-    if nat_le 1 (length word) && nat_le (length word) 12 && list_all is_ascii_digit word then second_of word else None
+-- each command by the words of its arguments
+abbrev pub check_by : List Row → CommandData
+check_by rows = check (text_given (codes "text") rows)
 
-abbrev pub at_moment : List ℕ → List ℕ → Option ℕ → Result CommandData Why
-at_moment dir text None = Err BadWords
-at_moment dir text (Some moment) = Ok (ask dir text (Some moment))
+abbrev pub ask_by : List Row → CommandData
+ask_by rows = ask (text_given (codes "dir") rows) (text_given (codes "text") rows) (number_given (codes "moment") rows)
 
--- DIR TEXT, or DIR TEXT --moment N
-abbrev pub ask_of : List (List ℕ) → Result CommandData Why
-ask_of (dir ∷ text ∷ []) = Ok (ask dir text None)
-ask_of (dir ∷ text ∷ flag ∷ n ∷ []) = if bytes_eq flag (codes "--moment") then at_moment dir text (moment_of n) else Err BadWords
-ask_of other = Err BadWords
+abbrev pub drill_by : List Row → CommandData
+drill_by rows = drill (number_or 0 (codes "number") rows)
 
--- TEXT
-abbrev pub check_of : List (List ℕ) → Result CommandData Why
-check_of (text ∷ []) = Ok (check text)
-check_of other = Err BadWords
+abbrev pub serve_by : List Row → CommandData
+serve_by rows = serve (text_given (codes "dir") rows) (text_given (codes "text") rows) (text_given (codes "address") rows) (options_of rows)
 
--- the words, the first of which names the command
-abbrev pub command_of : List (List ℕ) → Result CommandData Why
+-- the command by its matches if the words have some; else they are bad
+abbrev pub matched : App → (List Row → CommandData) → List Text → Result CommandData Why
+matched app by words = if has_matches app words then Ok (by (matches_of app words)) else Err BadWords
+
+-- the command of this name by the words after it
+abbrev pub command_by : Text → List Text → Result CommandData Why
+command_by name rest =
+    if bytes_eq name (codes "check") then matched forms.check check_by rest
+    else (if bytes_eq name (codes "ask") then matched forms.ask ask_by rest
+    else (if bytes_eq name (codes "drill") then matched forms.drill drill_by rest
+    else (if bytes_eq name (codes "serve") then matched forms.serve serve_by rest else Err NoCommand)))
+
+-- the first word names the command
+abbrev pub command_of : List Text → Result CommandData Why
 command_of [] = Err NoCommand
-command_of (first ∷ rest) =
-    if bytes_eq first (codes "ask") then ask_of rest else (if bytes_eq first (codes "check") then check_of rest else Err NoCommand)
+command_of (name ∷ rest) = command_by name rest

@@ -14,6 +14,30 @@ pub enum Command<'a> {
         text: &'a str,
         moment: Option<u64>,
     },
+    /// The number of connections, at most 1,000.
+    Drill {
+        number: u32,
+    },
+    /// The address is a host and a port, as they were written.
+    Serve {
+        dir: &'a str,
+        text: &'a str,
+        address: &'a str,
+        options: Options,
+    },
+}
+
+/// How a server is set up.
+#[derive(Clone, Copy, Debug, PartialEq, Eq)]
+pub struct Options {
+    /// Threads that wait for the machine, 1 to 16.
+    pub loops: u32,
+    /// Threads that ask for files, 1 to 64.
+    pub workers: u32,
+    /// Connections at one time, 1 to 1,024.
+    pub slots: u32,
+    /// Connections of a run, at most 2,147,483,647, for which 0 stands, too.
+    pub connections: u32,
 }
 
 /// Why the words are no command.
