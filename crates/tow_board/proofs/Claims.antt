@@ -1,5 +1,5 @@
 -- A claim keeps the rule.
-use Rattle.std.proofs.Common.{◌≡◌, ◌≢◌, ◌⊎◌, ℕ, eqb, zero, suc, ◌+◌, ◌*◌, ◌<◌, ◌≤◌, List, [], ◌∷◌, length, get_or, set, Some, None, Option, Bool, true, false, true≢false, refl, sym, ap, ◌∙◌, subst, inl, inr, ⊎_elim, arith, length-set}
+use Rattle.std.proofs.Common.{◌≡◌, ◌≢◌, ◌⊎◌, ℕ, eqb, ◌+◌, ◌*◌, ◌<◌, ◌≤◌, List, ◌∷◌, length, get_or, set, Some, Option, true, false, true≢false, refl, sym, ap, ◌∙◌, subst, inl, inr, ⊎_elim, arith, length-set}
 use Rattle.std.specs.Prelude.{slice_index}
 use mathlib.Core.Option.{some, none}
 use mathlib.Core.Option as maybe
@@ -7,7 +7,7 @@ use mathlib.Core.Logic.{dite}
 use native.Mathlib.Decide.{ℕ_discrete}
 use lib.ListN.{get_elem?}
 use prog.Atomic.{either}
-use Rattle.atomic_table.specs.Table.{Me, step, takes, Allows, stepped, carried_after}
+use Rattle.atomic_table.specs.Table.{Me, step, takes, Allows}
 use Rattle.atomic_table.proofs.Lists.{set_else, exchanged}
 use Rattle.tow_model.specs.declared.account.Role.{Role}
 use Rattle.tow_model.specs.declared.account.Role.TheVariants as roles
@@ -15,14 +15,14 @@ use Rattle.tow_board.specs.declared.view.View.{View}
 use Rattle.tow_board.specs.Finds.{find, has}
 use Rattle.tow_board.specs.Owners.{code_of, to_for, loop_number, role_number}
 use Rattle.tow_board.specs.Views.{top_of, is_told, gained, took_back}
-use Rattle.tow_board.specs.Rule.{Place, free, held, home, Kind, Truth, InPlace, loop_role, Continues, FromFresh, Told, IsLoop, FactIs, KeptIs, PostedIs, MainKnows, Knows, BoardRule}
+use Rattle.tow_board.specs.Rule.{Place, free, held, home, Kind, Truth, InPlace, loop_role, Continues, Told, IsLoop, FactIs, KeptIs, PostedIs, MainKnows, Knows}
 use Rattle.tow_board.specs.Steps.{info_of, AfterClaim, ComesBack, claimed}
 use Rattle.tow_board.specs.Answers.{IfYours, after_claim}
 use Rattle.tow_board.specs.declared.hand.Claim.{Claim}
 use Rattle.tow_board.specs.declared.hand.Claim.TheVariants.{Yours, Missed}
-use Rattle.tow_board.proofs.Lists.{put, put_here, put_else, put_same_key, at_put, find_new, found_new, find_old, has_new, has_old, has_found, not_has}
+use Rattle.tow_board.proofs.Lists.{put, put_here, put_else, put_same_key, at_put, find_new, found_new, find_old, has_found, not_has}
 use Rattle.tow_board.proofs.Seeing.{sees}
-use Rattle.tow_board.proofs.Moves.{St, Rule, Moves, moved, changed, posted_still, told_stays, gains_hand, held_apart, loop_real, Goes, stays}
+use Rattle.tow_board.proofs.Moves.{St, Rule, Moves, moved, changed, posted_still, told_stays, gains_hand, held_apart, loop_real, Goes}
 
 pub yours_on : (r : Claim) (A B : Type 0) → (A → B) → IfYours r A → IfYours r B
 yours_on Yours A B f a = f a

@@ -1,19 +1,18 @@
 -- A split and a join keep the rule.
-use Rattle.std.proofs.Common.{◌≡◌, ◌≢◌, ◌⊎◌, ℕ, zero, suc, ◌+◌, ◌*◌, ◌<◌, ◌≤◌, List, [], ◌∷◌, ◌++◌, length, set, Some, None, Option, Bool, true, false, true≢false, refl, sym, ap, ◌∙◌, subst, inl, inr, ⊎_elim, arith, length-set, length-append}
-use mathlib.Core.Option.{some, none}
+use Rattle.std.proofs.Common.{◌≡◌, ◌≢◌, ◌⊎◌, ℕ, zero, suc, ◌≤◌, List, [], ◌∷◌, ◌++◌, length, set, Some, Option, true, false, true≢false, refl, sym, ap, ◌∙◌, subst, inl, inr, ⊎_elim, arith, length-set, length-append}
+use mathlib.Core.Option.{some}
 use mathlib.Core.Logic.{dite}
 use native.Mathlib.Decide.{ℕ_discrete}
 use lib.ListN.{get_elem?}
-use Rattle.atomic_table.specs.Table.{State, Splits, Joins}
+use Rattle.atomic_table.specs.Table.{Splits, Joins}
 use Rattle.atomic_table.proofs.Lists.{at_set, set_here, set_else}
 use Rattle.tow_board.specs.declared.view.View.{View}
 use Rattle.tow_board.specs.Finds.{find, has}
-use Rattle.tow_board.specs.Owners.{loop_number}
-use Rattle.tow_board.specs.Views.{top_of, is_told, gave, newcomer, joined_with, spent_view}
-use Rattle.tow_board.specs.Rule.{Place, free, held, home, Kind, Truth, loop_role, Told, IsLoop, FactIs, BegunIs, KeptIs, PostedIs, MainKnows, Knows, Holds, BoardRule}
-use Rattle.tow_board.proofs.Lists.{put, put_here, put_else, at_lt, at_end, before_end, last_end, has_new, has_old, has_found, has_kept_on, found_joined, has_first, has_second, not_has}
+use Rattle.tow_board.specs.Views.{is_told, gave, newcomer, joined_with, spent_view}
+use Rattle.tow_board.specs.Rule.{held, Kind, Truth, loop_role, Told, FactIs, PostedIs, Knows}
+use Rattle.tow_board.proofs.Lists.{put, put_here, put_else, at_lt, at_end, before_end, last_end, has_new, has_old, has_kept_on, found_joined, has_first, has_second, not_has}
 use Rattle.tow_board.proofs.Told.{told_first, told_second}
-use Rattle.tow_board.proofs.Moves.{St, Rule, told_stays, loop_real, one_seat}
+use Rattle.tow_board.proofs.Moves.{St, Rule, loop_real, one_seat}
 
 is_same : {X : Type 0} (x y : X) → some x ≡ some y → x ≡ y
 is_same x y e = cc

@@ -1,5 +1,5 @@
 -- One word, one place and one view change, and the rule stays.
-use Rattle.std.proofs.Common.{◌≡◌, ◌≢◌, ◌⊎◌, ℕ, zero, suc, ◌+◌, ◌*◌, ◌<◌, ◌≤◌, List, [], ◌∷◌, length, get_or, set, Some, None, Option, Bool, true, false, true≢false, refl, sym, ap, ◌∙◌, subst, inl, inr, ⊎_elim, arith, length-set, get_or-set_other, get_or-set_same}
+use Rattle.std.proofs.Common.{◌≡◌, ◌≢◌, ◌⊎◌, ℕ, ◌+◌, ◌*◌, ◌<◌, ◌≤◌, List, length, get_or, set, Some, Option, true, false, true≢false, refl, sym, ap, ◌∙◌, subst, ⊎_elim, arith, length-set, get_or-set_other, get_or-set_same}
 use Rattle.std.specs.Prelude.{slice_index, is_some}
 use mathlib.Core.Option.{some, none}
 use mathlib.Core.Option as maybe
@@ -10,9 +10,8 @@ use Rattle.atomic_table.specs.Table.{State, Me, Act, keeps, Valid, stepped, carr
 use Rattle.atomic_table.proofs.Lists.{at_set, set_here, set_else, set_again}
 use Rattle.tow_board.specs.declared.view.View.{View}
 use Rattle.tow_board.specs.Finds.{find, has}
-use Rattle.tow_board.specs.Owners.{loop_number}
 use Rattle.tow_board.specs.Views.{top_of, is_told}
-use Rattle.tow_board.specs.Rule.{Place, free, held, home, Kind, Truth, Falling, InPlace, loop_role, Continues, FromFresh, Told, IsLoop, FactIs, BegunIs, KeptIs, PostedIs, Holds, MainKnows, Knows, BoardRule}
+use Rattle.tow_board.specs.Rule.{Place, free, held, home, Kind, Truth, Falling, InPlace, loop_role, Continues, Told, IsLoop, FactIs, KeptIs, PostedIs, Holds, MainKnows, Knows, BoardRule}
 use Rattle.tow_board.proofs.Lists.{put, put_here, put_else, put_same_key, at_put, at_lt, at_get, has_found}
 
 pub held_apart : (i j : ℕ) → j ≢ i → held i ≢ held j

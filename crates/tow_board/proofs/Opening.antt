@@ -1,5 +1,5 @@
 -- Opening a slot, freeing one and looking at one keep the rule, which holds at first.
-use Rattle.std.proofs.Common.{◌≡◌, ◌≢◌, ◌⊎◌, ℕ, zero, suc, ◌+◌, ◌*◌, ◌<◌, ◌≤◌, List, [], ◌∷◌, map, length, get_or, set, Some, None, Option, Bool, true, false, true≢false, refl, sym, ap, ◌∙◌, subst, inl, inr, ⊎_elim, arith, length-set}
+use Rattle.std.proofs.Common.{◌≡◌, ◌≢◌, ℕ, zero, suc, ◌<◌, ◌≤◌, List, [], ◌∷◌, map, length, get_or, set, Some, None, Option, true, false, true≢false, refl, sym, ◌∙◌, subst, inl, ⊎_elim, arith, length-set}
 use Rattle.std.specs.Prelude.{slice_index}
 use Rattle.std.proofs.lemmas.List.{length-map}
 use mathlib.Core.Option.{some, none, some-ne-none, some-injective}
@@ -11,11 +11,10 @@ use Rattle.atomic_table.specs.Table.{Me, step, takes, gives, Allows, opening}
 use Rattle.atomic_table.proofs.Lists.{set_here, set_else}
 use Rattle.tow_board.specs.declared.view.View.{View}
 use Rattle.tow_board.specs.Finds.{find, has, without}
-use Rattle.tow_board.specs.Owners.{loop_number}
-use Rattle.tow_board.specs.Views.{top_of, is_told, main_view, began, retired}
-use Rattle.tow_board.specs.Rule.{Place, free, held, home, Kind, Truth, InPlace, Continues, IsLoop, FactIs, KeptIs, PostedIs, MainKnows, Knows, Holds, BoardRule}
+use Rattle.tow_board.specs.Views.{is_told, main_view, began, retired}
+use Rattle.tow_board.specs.Rule.{Place, free, held, home, Kind, Truth, InPlace, MainKnows, Knows, Holds}
 use Rattle.tow_board.specs.Steps.{opened, looked, looked_for, ended}
-use Rattle.tow_board.proofs.Lists.{put, put_here, put_else, put_same_key, at_put, at_vacant, find_new, find_old, find_without, has_new, has_old, has_else, has_gone, has_found, not_has, found_has}
+use Rattle.tow_board.proofs.Lists.{put_else, put_same_key, at_put, at_vacant, find_new, find_old, find_without, has_new, has_old, has_else, has_gone, not_has}
 use Rattle.tow_board.proofs.Seeing.{sees}
 use Rattle.tow_board.proofs.Moves.{St, Rule, Moves, moved, changed, posted_still, told_stays, gains_hand, loses_hand, held_apart, is_free, loop_real, stays}
 

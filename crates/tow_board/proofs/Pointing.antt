@@ -1,5 +1,5 @@
 -- The rule gives each point.
-use Rattle.std.proofs.Common.{◌≡◌, ◌≢◌, ◌⊎◌, ℕ, ◌<◌, ◌≤◌, ◌*◌, ◌+◌, true, false, true≢false, Bool, length, get_or, Option, Some, None, refl, sym, ap, ◌∙◌, subst, inl, inr, ⊎_elim, arith}
+use Rattle.std.proofs.Common.{◌≡◌, ◌≢◌, ℕ, ◌≤◌, false, true≢false, get_or, Option, Some, refl, sym, ap, ◌∙◌, subst, inr, ⊎_elim, arith}
 use mathlib.Core.Option.{some}
 use mathlib.Core.Option as maybe
 use mathlib.Core.Logic.{dite}
@@ -8,7 +8,7 @@ use lib.ListN.{get_elem?}
 use Rattle.tow_board.specs.declared.view.View.{View}
 use Rattle.tow_board.specs.Finds.{find, has}
 use Rattle.tow_board.specs.Rule.{Place, free, held, home, Kind, InPlace, FactIs, Knows, IsLoop, loop_role, BoardRule}
-use Rattle.tow_board.specs.Points.{Has, IsMain, Waits, Claimed, Points}
+use Rattle.tow_board.specs.Points.{Has, Waits, Claimed, Points}
 use Rattle.tow_board.proofs.Lists.{get_there, has_found, not_has}
 use Rattle.tow_board.proofs.Moves.{St, Rule, one_seat}
 

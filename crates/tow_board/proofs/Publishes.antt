@@ -1,24 +1,22 @@
 -- A publishing keeps the rule.
-use Rattle.std.proofs.Common.{◌≡◌, ◌≢◌, ◌⊎◌, ℕ, zero, suc, ◌+◌, ◌*◌, ◌<◌, ◌≤◌, List, [], ◌∷◌, length, get_or, set, Some, None, Option, Bool, true, false, true≢false, refl, sym, ap, ◌∙◌, subst, inl, inr, ⊎_elim, arith, length-set}
-use Rattle.std.specs.Prelude.{slice_index}
+use Rattle.std.proofs.Common.{◌≡◌, ◌≢◌, ℕ, zero, suc, ◌+◌, ◌*◌, ◌<◌, ◌≤◌, List, [], ◌∷◌, length, set, Some, None, Option, true, false, true≢false, refl, sym, ap, ◌∙◌, subst, inl, inr, ⊎_elim, arith, length-set}
 use mathlib.Core.Option.{some, none}
-use mathlib.Core.Option as maybe
 use mathlib.Core.Logic.{dite}
 use native.Mathlib.Decide.{ℕ_discrete}
 use lib.ListN.{get_elem?}
-use Rattle.atomic_table.specs.Table.{Me, step, gives, Allows, rest}
+use Rattle.atomic_table.specs.Table.{step, gives, Allows, rest}
 use Rattle.atomic_table.proofs.Lists.{set_here, set_else}
 use Rattle.tow_board.specs.declared.view.View.{View}
 use Rattle.tow_board.specs.Finds.{find, has, without}
 use Rattle.tow_model.specs.declared.account.Role.{Role}
 use Rattle.tow_model.specs.declared.account.Role.TheVariants as roles
-use Rattle.tow_board.specs.Owners.{loop_number, role_number}
+use Rattle.tow_board.specs.Owners.{role_number}
 use Rattle.tow_board.proofs.Words.{role_real}
 use Rattle.tow_board.specs.Views.{top_of, is_told, told_newly, starts, posts, returns}
 use Rattle.tow_board.specs.Rule.{Place, free, held, home, Kind, Truth, Falling, loop_role, Continues, FromFresh, Told, IsLoop, FactIs, KeptIs, PostedIs, MainKnows, Knows, BoardRule}
 use Rattle.tow_board.specs.Steps.{info_of, AfterPublish, published}
 use Rattle.tow_board.specs.Answers.{MayPublish, IsAfterPublish}
-use Rattle.tow_board.proofs.Lists.{put, put_here, put_else, put_same_key, at_put, at_lt, find_new, found_new, find_old, find_without, find_gone, has_new, has_old, has_gone, has_found, has_kept_on, found_has}
+use Rattle.tow_board.proofs.Lists.{put_else, put_same_key, at_put, at_lt, find_new, found_new, find_old, find_without, find_gone, has_new, has_old, has_gone, has_found, has_kept_on, found_has}
 use Rattle.tow_board.proofs.Told.{told_more, told_now, top_grows, top_new, above_all}
 use Rattle.tow_board.proofs.Moves.{St, Rule, Moves, moved, changed, posted_still, told_stays, loses_hand, held_apart, loop_real, one_seat, Goes}
 

@@ -1,5 +1,5 @@
 -- A load that a seat keeps in mind keeps the rule.
-use Rattle.std.proofs.Common.{◌≡◌, ◌≢◌, ℕ, ◌<◌, List, [], ◌∷◌, length, get_or, set, Some, None, Option, Bool, true, false, refl, sym, ap, ◌∙◌, subst, inl, inr, ◌⊎◌, ⊎_elim, length-set}
+use Rattle.std.proofs.Common.{◌≡◌, ◌≢◌, ℕ, ◌<◌, List, length, get_or, set, Option, sym, ap, ◌∙◌, subst, ⊎_elim, length-set}
 use Rattle.std.specs.Prelude.{slice_index}
 use mathlib.Core.Option.{some}
 use mathlib.Core.Logic.{dite}
@@ -8,7 +8,7 @@ use lib.ListN.{get_elem?}
 use Rattle.atomic_table.specs.Table.{Me, keeps, stepped}
 use Rattle.atomic_table.proofs.Lists.{at_set, set_here, set_else, set_again}
 use Rattle.tow_board.specs.declared.view.View.{View}
-use Rattle.tow_board.specs.Rule.{Kind, Truth, FactIs, KeptIs, PostedIs, MainKnows, Knows, Holds, BoardRule}
+use Rattle.tow_board.specs.Rule.{Kind, Truth, Knows}
 use Rattle.tow_board.proofs.Lists.{at_lt, at_get}
 use Rattle.tow_board.proofs.Moves.{St, Rule, Goes, told_stays}
 

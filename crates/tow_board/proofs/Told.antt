@@ -1,6 +1,6 @@
 -- Numbers with faults, and numbers that rise.
-use Rattle.std.proofs.Common.{◌≡◌, ◌⊎◌, ℕ, zero, suc, ◌<◌, ◌≤◌, ◌==◌, List, [], ◌∷◌, ◌++◌, Bool, true, false, cond, refl, sym, ap, ◌∙◌, subst, inl, inr, eq-eqb, arith}
-use Rattle.std.specs.Prelude.{◌&&◌, ◌||◌, max, All}
+use Rattle.std.proofs.Common.{◌≡◌, ◌⊎◌, ℕ, suc, ◌<◌, ◌≤◌, ◌==◌, List, [], ◌∷◌, ◌++◌, Bool, true, false, refl, inl, inr, eq-eqb, arith}
+use Rattle.std.specs.Prelude.{◌&&◌, ◌||◌, All}
 use Rattle.tow_board.specs.Views.{is_told, told_newly, top_of}
 
 pub told_more : (b c : Bool) (e : ℕ × ℕ) (es : List (ℕ × ℕ)) (m a : ℕ) → is_told m a es ≡ true → is_told m a (told_newly b c e es) ≡ true

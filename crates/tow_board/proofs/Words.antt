@@ -1,5 +1,5 @@
 -- Codes, words and the numbers of roles.
-use Rattle.std.proofs.Common.{◌≡◌, ◌≢◌, ◌⊎◌, ℕ, zero, suc, ◌+◌, ◌-◌, ◌*◌, ◌<◌, ◌≤◌, ◌==◌, Bool, true, false, cond, refl, sym, ap, ◌∙◌, subst, eq-eqb, ne_eqb, arith}
+use Rattle.std.proofs.Common.{◌≡◌, ◌≢◌, ℕ, ◌+◌, ◌-◌, ◌<◌, ◌≤◌, refl, sym, ap, eq-eqb, ne_eqb, arith}
 use mathlib.Core.Logic.{dite}
 use native.Mathlib.Decide.{ℕ_discrete}
 use Rattle.tow_model.specs.declared.account.Role.{Role}
@@ -9,7 +9,7 @@ use Rattle.tow_board.specs.declared.owner.To.TheVariants as waiting
 use Rattle.tow_board.specs.declared.owner.Owner.{Owner}
 use Rattle.tow_board.specs.declared.owner.Owner.TheVariants.{Free, Hand, Waiting}
 use Rattle.tow_board.specs.Answers.{IfToLoop}
-use Rattle.tow_board.specs.Owners.{code_of, to_at, word_of, owner_at, to_for, loop_number, worker_number, role_number}
+use Rattle.tow_board.specs.Owners.{code_of, to_at, word_of, owner_at, role_number}
 
 pub two_or_more : (to : To) → 2 ≤ code_of to
 two_or_more waiting.Pool = omega arith

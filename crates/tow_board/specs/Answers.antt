@@ -1,5 +1,5 @@
 -- Words of the board's contracts.
-use Rattle.std.specs.Prelude.{◌≡◌, ℕ, ◌<◌, Bool, true, List, ◌∷◌, Some, All}
+use Rattle.std.specs.Prelude.{◌≡◌, ℕ, ◌<◌, Bool, true, Some, All}
 use Rattle.tow_model.specs.declared.account.Role.{Role}
 use Rattle.tow_model.specs.declared.account.Role.TheVariants as roles
 use Rattle.tow_board.specs.declared.hand.Claim.{Claim}

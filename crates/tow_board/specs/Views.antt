@@ -1,8 +1,7 @@
 -- What the steps make of the views.
-use Rattle.std.specs.Prelude.{ℕ, ◌+◌, ◌*◌, ◌==◌, ◌&&◌, ◌||◌, Bool, true, false, not, cond, List, [], ◌∷◌, ◌++◌, Option, Some, None, suc, max}
+use Rattle.std.specs.Prelude.{ℕ, ◌==◌, ◌&&◌, ◌||◌, Bool, false, not, cond, List, [], ◌∷◌, ◌++◌, Some, None, suc, max}
 use Rattle.tow_board.specs.declared.view.View.{View}
 use Rattle.tow_board.specs.Finds.{without}
-use Rattle.tow_board.specs.Owners.{loop_number}
 
 -- greater than each of them
 abbrev pub top_of : List ℕ → ℕ

@@ -1,4 +1,3 @@
-use Rattle.std.proofs.Common.{◌≡◌}
 use Rattle.tow_model.specs.declared.account.Role.TheVariants.{Loop}
 use Rattle.tow_board.specs.Idle.{IsIdle}
 use Rattle.tow_board.proofs.tests.run_loop.Given as goal

@@ -1,4 +1,4 @@
-use Rattle.std.proofs.Common.{sym, subst, ap, ℕ, ◌<◌, ◌∙◌, List, Option}
+use Rattle.std.proofs.Common.{sym, subst, ap, ℕ, ◌<◌, ◌∙◌}
 use Rattle.tow_board.specs.Finds.{has}
 use Rattle.tow_board.specs.Owners.{role_number}
 use Rattle.tow_board.specs.Rule.{kind_of}

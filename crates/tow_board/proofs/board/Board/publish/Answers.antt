@@ -5,8 +5,8 @@ use Rattle.atomic_table.specs.Table.{Allows, step, rest}
 use Rattle.tow_model.specs.declared.account.Role.{Role}
 use Rattle.tow_board.specs.declared.owner.To.{To}
 use Rattle.tow_board.specs.declared.view.View.{View}
-use Rattle.tow_board.specs.Finds.{find, has, distinct, without}
-use Rattle.tow_board.specs.Owners.{code_of, to_at}
+use Rattle.tow_board.specs.Finds.{has, distinct}
+use Rattle.tow_board.specs.Owners.{to_at}
 use Rattle.tow_board.specs.Rule.{BoardRule, kind_of}
 use Rattle.tow_board.specs.Answers.{MayPublish, IsAfterPublish}
 use Rattle.tow_board.specs.Steps.{published}

@@ -1,9 +1,9 @@
-use Rattle.std.proofs.Common.{arith, sym, subst, ap, ℕ, ◌<◌, ◌≡◌, ◌≢◌, ◌∙◌, List, ◌∷◌, Option, Some, None, true}
+use Rattle.std.proofs.Common.{arith, sym, subst, ap, ℕ, ◌<◌, ◌≡◌, ◌∙◌, List, ◌∷◌, Option, Some, None, true}
 use Rattle.std.specs.Prelude.{is_some}
 use mathlib.Core.Option.{none}
 use Rattle.atomic_table.specs.Table.{Me, Allows, step, rest}
 use Rattle.tow_board.specs.declared.view.View.{View}
-use Rattle.tow_board.specs.Finds.{find, has, distinct, without}
+use Rattle.tow_board.specs.Finds.{find, has, distinct}
 use Rattle.tow_board.specs.Owners.{role_number}
 use Rattle.tow_board.specs.Rule.{BoardRule, kind_of}
 use Rattle.tow_board.specs.Steps.{ended}
