@@ -13,7 +13,6 @@ use Rattle.tow_site.specs.declared.fault.Fault.{Fault}
 use Rattle.tow_site.specs.declared.fault.Fault.TheVariants as faults
 use Rattle.tow_site.proofs.Sites.{is_short}
 use Rattle.tow_conn.specs.Turns.{WritesWire, WritesPart}
-use Rattle.tow_words.specs.declared.command.Why.{Why}
 use Rattle.tow_server.specs.Ask.{Asked, AsksPart, is_walked}
 use Rattle.tow_server.specs.Check.{Checked, is_checked}
 use Rattle.tow_server.specs.Lines.{fault_line, line_for, ok_line, unbuilt_line}

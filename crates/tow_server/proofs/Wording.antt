@@ -1,12 +1,10 @@
 -- Where the memory for reading the words was short, nothing was done.
-use Rattle.std.proofs.Common.{◌≡◌, ◌≢◌, ◌⊎◌, inl, inr, ℕ, Bool, true, List, Option, refl}
+use Rattle.std.proofs.Common.{◌≡◌, ◌⊎◌, inl, inr, ℕ, Bool, List, Option, refl}
 use Rattle.tow_host.specs.Held.{Held}
 use Rattle.tow_site.specs.Compiled.{SiteData}
-use Rattle.tow_words.specs.declared.command.Why.{Why}
 use Rattle.tow_server.specs.Ask.{Asked, is_walked}
 use Rattle.tow_server.specs.Check.{Checked, is_checked}
-use Rattle.tow_server.specs.Texts.{HandsBack, LeavesStreams, UsesText}
-use Rattle.tow_server.specs.declared.status.Status.{Status}
+use Rattle.tow_server.specs.Texts.{LeavesStreams, UsesText}
 use Rattle.tow_server.specs.declared.status.Status.TheVariants.{Done, Words, Text, HostFault, NoMemory, StreamFault}
 
 leaves : (old : Held) → LeavesStreams old old
