@@ -1,5 +1,5 @@
 -- What is a worker's stays so: its next need is a worker's.
-use Rattle.std.proofs.Common.{◌≡◌, ℕ, zero, suc, Bool, true, false, List, [], ◌∷◌, drop, refl, ap, ◌∙◌, if◌then◌else◌}
+use Rattle.std.proofs.Common.{◌≡◌, ℕ, zero, suc, Bool, true, false, List, [], ◌∷◌, drop, refl, sym, ap, ◌∙◌, if◌then◌else◌}
 use Rattle.tow_model.specs.declared.request.Request.{Request}
 use Rattle.tow_model.specs.declared.action.Action.{Action}
 use Rattle.tow_model.specs.declared.action.Action.TheVariants.{Set, Clear, Rewrite, Redirect, ResponseCode, Header, AllowedMethods, RequestLimit, Resource, Blocking, AccessLog, Echo, Restart, Done}
@@ -19,7 +19,7 @@ use Rattle.tow_program.specs.declared.instruction.Instruction.TheVariants.{Ask, 
 use Rattle.tow_program.specs.Runs.{run, exits_in}
 use Rattle.tow_advance.specs.declared.next.Next.TheVariants as next
 use Rattle.tow_advance.specs.Under.{way_at, plan_at, plan_in}
-use Rattle.tow_advance.specs.Needs.{is_for_worker, for_role, first_need, first_stand, need_at}
+use Rattle.tow_advance.specs.Needs.{is_for_worker, for_role, first_need, first_stand, need_at, StaysForWorker}
 
 -- the way keeps for a worker what is a worker's
 abbrev Keeps : Way → Type 0
@@ -116,3 +116,28 @@ not_stopped (phase.AwaitsVerdict limit) role plan live = refl
 not_stopped phase.AwaitsContent role plan live = refl
 not_stopped (phase.AwaitsPage location listing) role plan live = refl
 not_stopped phase.Stopped role plan live = absurd (live refl)
+
+-- what a loop goes on with has passed no `blocking`, and a step of it keeps it from work that is a worker's
+pub stays_by_step : (role : Role) (start : Mark) (old e new : ExchangeData) → start ≡ old.stand.mark →
+    (for_role role (is_for_worker e.stand.mark) next.Stop ≡ next.NeedWorker → ⊥) →
+    (e.stand.mark ≡ Free → new.stand.mark ≡ Worked → ⊥) → StaysForWorker role start old e → StaysForWorker role start old new
+stays_by_step Main start old e new at goes step stays = tt
+stays_by_step (Worker i) start old e new at goes step stays = tt
+stays_by_step (Loop i) Free old e new at goes step stays = by e.stand.mark refl
+  where
+    by : (mark : Mark) → e.stand.mark ≡ mark → new.stand.mark ≡ Worked → ⊥
+    by Free is = step is
+    by Passed is = absurd (goes (rw is refl))
+    by Worked is = absurd (stays is)
+stays_by_step (Loop i) Passed old e new at goes step stays =
+    let is : e.stand.mark ≡ Passed = ap (λ (x : ExchangeData). x.stand.mark) stays ∙ sym at in absurd (goes (rw is refl))
+stays_by_step (Loop i) Worked old e new at goes step stays =
+    let is : e.stand.mark ≡ Worked = ap (λ (x : ExchangeData). x.stand.mark) stays ∙ sym at in absurd (goes (rw is refl))
+
+-- an exchange that was not touched stays so
+pub stays_there : (role : Role) (start : Mark) (e : ExchangeData) → start ≡ e.stand.mark → StaysForWorker role start e e
+stays_there Main start e at = tt
+stays_there (Worker i) start e at = tt
+stays_there (Loop i) Free e at = λ worked. absurd cc
+stays_there (Loop i) Passed e at = refl
+stays_there (Loop i) Worked e at = refl

@@ -3,6 +3,8 @@ use Rattle.std.proofs.Common.{◌≡◌, ℕ, zero, suc, ◌+◌, ◌-◌, ◌*�
 use Rattle.std.proofs.Math.Nat.{suc-mul}
 use Rattle.std.proofs.lemmas.Option.{slice_get_within}
 use Rattle.tow_model.specs.declared.action.Action.{Action}
+use Rattle.tow_model.specs.declared.action.Action.TheVariants.{Set, Clear, Rewrite, Redirect, ResponseCode, Header, AllowedMethods, RequestLimit, Resource, Blocking, AccessLog, Echo, Restart, Done}
+use Rattle.tow_semantics.specs.Plans.{Mark, Free, Passed, Worked, after_action, after_blocking, after_step}
 use Rattle.tow_semantics.specs.Predicates.{held, test_of}
 use Rattle.tow_semantics.specs.Steps.{Go, Stop}
 use Rattle.tow_semantics.specs.Effects.{Effect, Takes, Asks, ReadsContent, LooksUp, BeginsAgain, GoesToDefault, effect_of}
@@ -86,12 +88,65 @@ taken_same program (Some (Ask test holds fails)) at e = record { connection = re
 taken_same program (Some (Do a)) at e = acted_same a (effect_of a e.request e.stand.state e.moment) (suc at) e
 taken_same program (Some (Skip k)) at e = record { connection = refl; number = refl; request = refl; moment = refl }
 
+-- one step from before any `blocking` is none after one
+before : (mark : Mark) → mark ≡ Free → after_step mark ≡ Worked → ⊥
+before Free is worked = absurd cc
+before Passed is worked = absurd cc
+before Worked is worked = absurd cc
+
+passing : (mark : Mark) → mark ≡ Free → after_blocking mark ≡ Worked → ⊥
+passing Free is worked = absurd cc
+passing Passed is worked = absurd cc
+passing Worked is worked = absurd cc
+
+pub still : (mark : Mark) → mark ≡ Free → mark ≡ Worked → ⊥
+still Free is worked = absurd cc
+still Passed is worked = absurd cc
+still Worked is worked = absurd cc
+
+action_before : (a : Action) (mark : Mark) → mark ≡ Free → after_action a mark ≡ Worked → ⊥
+action_before Blocking mark is = passing mark is
+action_before (Set t v) mark is = before mark is
+action_before (Clear t) mark is = before mark is
+action_before (Rewrite v) mark is = before mark is
+action_before (Redirect v) mark is = before mark is
+action_before (ResponseCode n) mark is = before mark is
+action_before (Header n v r) mark is = before mark is
+action_before (AllowedMethods ms) mark is = before mark is
+action_before (RequestLimit n k) mark is = before mark is
+action_before (Resource l k) mark is = before mark is
+action_before (AccessLog n f) mark is = before mark is
+action_before Echo mark is = before mark is
+action_before Restart mark is = before mark is
+action_before Done mark is = before mark is
+
+begun_unworked : (left : ℕ) (e : ExchangeData) → (e.stand.mark ≡ Worked → ⊥) → (begun_again left e).stand.mark ≡ Worked → ⊥
+begun_unworked zero e free = free
+begun_unworked (suc left) e free = free
+
+acted_unworked : (a : Action) (effect : Effect) (next : ℕ) (e : ExchangeData) → e.stand.mark ≡ Free → (acted a effect next e).stand.mark ≡ Worked → ⊥
+acted_unworked a (Takes (Go x)) next e is = action_before a e.stand.mark is
+acted_unworked a (Takes (Stop x)) next e is = action_before a e.stand.mark is
+acted_unworked a (Asks limit) next e is = still e.stand.mark is
+acted_unworked a ReadsContent next e is = still e.stand.mark is
+acted_unworked a (LooksUp location listing) next e is = still e.stand.mark is
+acted_unworked a BeginsAgain next e is = begun_unworked e.restarts_left (after a e) (action_before a e.stand.mark is)
+acted_unworked a GoesToDefault next e is = action_before a e.stand.mark is
+
+taken_unworked : (program : List Instruction) (o : Option Instruction) (at : ℕ) (e : ExchangeData) → e.stand.mark ≡ Free →
+    (taken program o at e).stand.mark ≡ Worked → ⊥
+taken_unworked program None at e is = still e.stand.mark is
+taken_unworked program (Some (Ask test holds fails)) at e is = before e.stand.mark is
+taken_unworked program (Some (Do a)) at e is = acted_unworked a (effect_of a e.request e.stand.state e.moment) (suc at) e is
+taken_unworked program (Some (Skip k)) at e is = still e.stand.mark is
+
 pub taken_steps : (program : List Instruction) (e : ExchangeData) (at : ℕ) → e.phase ≡ Running → e.place ≡ InText at →
     Stepped program e (taken program (slice_get program at) at e)
 taken_steps program e at is here =
     let s = taken_same program (slice_get program at) at e in
     record {
       plan = taken_plan program e at is here;
+      unworked = taken_unworked program (slice_get program at) at e;
       nearer = subst (λ n. left_of program (taken program (slice_get program at) at e) < n)
           (sym (ap₂ (λ p w. left_in program e.restarts_left p w) is here))
           (taken_nearer program e at is (slice_get program at) refl);
@@ -106,6 +161,7 @@ pub not_found_steps : (program : List Instruction) (e : ExchangeData) → e.phas
 not_found_steps program e is here =
     record {
       plan = not_found_plan program e is here;
+      unworked = still e.stand.mark;
       nearer = subst (λ n. 0 < n) (sym (ap₂ (λ p w. left_in program e.restarts_left p w) is here)) (omega arith);
       connection = refl;
       number = refl;

@@ -6,6 +6,7 @@ use Rattle.tow_model.specs.declared.predicate.Test.{Test}
 use Rattle.tow_semantics.specs.Predicates.{held, test_of}
 use Rattle.tow_semantics.specs.Steps.{Go, Stop}
 use Rattle.tow_semantics.specs.Effects.{Effect, Takes, Asks, ReadsContent, LooksUp, BeginsAgain, GoesToDefault, effect_of}
+use Rattle.tow_semantics.specs.Plans.{Free, Worked}
 use Rattle.tow_exchange.specs.Exchanges.{ExchangeData, after, after_test, begun_again, moved_to, stopped, stopped_with, waiting, with_state}
 use Rattle.tow_exchange.specs.declared.phase.Phase.{Phase}
 use Rattle.tow_exchange.specs.declared.phase.Phase.TheVariants.{Running, AwaitsVerdict, AwaitsContent, AwaitsPage}
@@ -62,6 +63,7 @@ with_context context e = record e { stand = record e.stand { state = record e.st
 -- what a step leaves: less is left to do, the plan and the request stay
 pub record Stepped (program : List Instruction) (old new : ExchangeData) : Type 0 where
   pub plan : plan_in program new ≡ plan_in program old
+  pub unworked : old.stand.mark ≡ Free → new.stand.mark ≡ Worked → ⊥
   pub nearer : left_of program new < left_of program old
   pub connection : new.connection ≡ old.connection
   pub number : new.number ≡ old.number

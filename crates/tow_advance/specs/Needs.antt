@@ -2,7 +2,7 @@
 use Rattle.std.specs.Prelude.{◌≡◌, Bool, true, false, List}
 use Rattle.tow_model.specs.declared.account.Role.{Role}
 use Rattle.tow_model.specs.declared.account.Role.TheVariants.{Loop}
-use Rattle.tow_semantics.specs.Plans.{Mark, Free, Stand, Plan, Over, AwaitVerdict, AwaitContent, AwaitPage}
+use Rattle.tow_semantics.specs.Plans.{Mark, Free, Worked, Stand, Plan, Over, AwaitVerdict, AwaitContent, AwaitPage}
 use Rattle.tow_exchange.specs.Exchanges.{ExchangeData}
 use Rattle.tow_exchange.specs.declared.phase.Phase.{Phase}
 use Rattle.tow_exchange.specs.declared.phase.Phase.TheVariants.{Stopped}
@@ -43,6 +43,14 @@ first_stand (Over s) = s
 first_stand (AwaitVerdict limit s go) = s
 first_stand (AwaitContent s go) = s
 first_stand (AwaitPage location listing s go) = s
+
+-- WHAT A LOOP LEAVES TO A WORKER
+
+-- A loop leaves what is a worker's as it is, and takes no step after a `blocking` that it passes.
+abbrev pub StaysForWorker : Role → Mark → ExchangeData → ExchangeData → Type 0
+StaysForWorker (Loop i) Free old new = new.stand.mark ≡ Worked → ⊥
+StaysForWorker (Loop i) other old new = new ≡ old
+StaysForWorker other mark old new = Unit {0}
 
 -- WANT OF MEMORY
 

@@ -6,7 +6,7 @@ ghost use Rattle.tow_model.specs.Texts.{Text};
 ghost use Rattle.tow_semantics.specs.Predicates.{AreAmong};
 ghost use Rattle.tow_advance.specs.Knowing.{program_patterns};
 ghost use Rattle.tow_advance.specs.Moves.{Stepped, with_context};
-ghost use Rattle.tow_advance.specs.Needs.{IsUnderWay, need_in};
+ghost use Rattle.tow_advance.specs.Needs.{IsUnderWay, StaysForWorker, need_in};
 ghost use Rattle.tow_advance.specs.Under.{plan_in};
 
 use crate::need::{hands_on, need};
@@ -19,7 +19,7 @@ use tow_pred::Scratch;
 use tow_program::Program;
 
 /// Goes on with an exchange until it needs something, which the role decides with its plan. Its plan stays the same, so that
-/// the steps of a walk may be split between roles in any way. Takes memory for values, bindings and what actions write; if
+/// the steps of a walk may be split between roles in any way. A loop takes no step after a `blocking`. Takes memory for values, bindings and what actions write; if
 /// it is short, the listeners are those that were added so far.
 pub fn advance(
     alloc: Global,
@@ -39,6 +39,7 @@ pub fn advance(
     ensures content { result ≡ Next.NeedContent → exchange.new.phase ≡ Phase.AwaitsContent }
     ensures page { (location : Text) (listing : Bool) → result ≡ Next.NeedFolder location listing
         → exchange.new.phase ≡ Phase.AwaitsPage location listing }
+    ensures stays { StaysForWorker role exchange.old.stand.mark exchange.old exchange.new }
     ensures no_memory { result ≡ Next.NoMemory
         → IsUnderWay program.now exchange.old exchange.new }
     ensures connection { exchange.new.connection ≡ exchange.old.connection }

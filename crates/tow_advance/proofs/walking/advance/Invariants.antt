@@ -1,5 +1,6 @@
 use Rattle.std.proofs.Common.{◌≡◌}
 use Rattle.tow_advance.specs.Moves.{left_of}
+use Rattle.tow_advance.specs.Needs.{StaysForWorker}
 use Rattle.tow_advance.specs.Under.{plan_in}
 use Rattle.tow_advance.proofs.walking.advance.Given as goal
 
@@ -10,6 +11,7 @@ invariant-loop-exchange l =
     × (l.exchange.connection ≡ l.initial.exchange.connection) × (l.exchange.number ≡ l.initial.exchange.number)
     × (l.exchange.request ≡ l.initial.exchange.request) × (l.exchange.moment ≡ l.initial.exchange.moment)
     × (l.scratch ≡ l.initial.scratch)
+    × StaysForWorker l.role l.initial.exchange.stand.mark l.initial.exchange l.exchange
 
 abbrev pub decreases-loop-exchange : goal.decreases-loop-exchange
 decreases-loop-exchange l = left_of l.program l.exchange
