@@ -1,9 +1,9 @@
 -- The formats of a text's access logs, found by their number.
-use Rattle.std.specs.Prelude.{◌≡◌, ℕ, zero, suc, List, [], ◌∷◌, Result, Ok, Err, filter_map}
+use Rattle.std.specs.Prelude.{ℕ, zero, suc, List, [], ◌∷◌, Result, Ok, Err, filter_map}
 use Rattle.tow_model.specs.declared.attribute.Piece.{Piece}
 use Rattle.tow_model.specs.declared.statement.Statement.{Statement, fold-Statement}
 use Rattle.tow_model.specs.declared.action.Action.{Action}
-use Rattle.tow_semantics.specs.Listeners.{actions_by, format_of_action, formats_of}
+use Rattle.tow_semantics.specs.Listeners.{actions_by, format_of_action}
 
 -- the format of the log at this place, from 0, or how many more logs are to be passed over if they are too few
 abbrev pub after_formats : List (List Piece) → ℕ → Result (List Piece) ℕ

@@ -1,6 +1,6 @@
-use Rattle.std.proofs.Common.{◌≡◌, ◌+◌, ◌∷◌, Ok, Err, drop, drop-cons, add-one, refl, sym, ap, ◌∙◌, IfOk, IfErr, subst}
+use Rattle.std.proofs.Common.{◌≡◌, ◌+◌, ◌∷◌, drop, drop-cons, add-one, refl, ap, ◌∙◌}
 use Rattle.tow_semantics.specs.Listeners.{formats_of}
-use Rattle.tow_site.specs.Formats.{after_formats, formats_in}
+use Rattle.tow_site.specs.Formats.{after_formats}
 use Rattle.tow_site.proofs.Searching.{formats_block, found_first, passed_first, found_when, passed_when, passed_then}
 use Rattle.tow_site.proofs.formats.+formats.Goals as goal
 

@@ -1,6 +1,3 @@
-use Rattle.std.proofs.Common.{◌≡◌, ◌<◌, Ok, Err, length, refl, sym, ap, ◌∙◌, subst}
-use Rattle.tow_semantics.specs.Listeners.{formats_of}
-use Rattle.tow_site.specs.Formats.{after_formats}
 use Rattle.tow_site.proofs.Searching.{found_at, ok_is, ok_or_err}
 use Rattle.tow_site.proofs.site.Site.format.Goals as goal
 

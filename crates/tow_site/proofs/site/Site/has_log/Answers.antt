@@ -1,4 +1,4 @@
-use Rattle.std.proofs.Common.{◌≡◌, ◌<◌, Ok, Err, length, refl, true, false}
+use Rattle.std.proofs.Common.{refl}
 use Rattle.tow_site.proofs.Searching.{found_at, ok_below, ok_or_err}
 use Rattle.tow_site.proofs.site.Site.has_log.Goals as goal
 
