@@ -1,0 +1,4 @@
+pub mod Behind
+pub mod Cells
+pub mod Neighbours
+pub mod Rows

@@ -1,0 +1,11 @@
+pub mod Causes
+pub mod Drawn
+pub mod Forms
+pub mod Lines
+pub mod Misplaced
+pub mod Names
+pub mod Pages
+pub mod Remarks
+pub mod Scripts
+pub mod Strays
+pub mod Surroundings

@@ -1,0 +1,41 @@
+//! What a person is told of a handlers text that has a fault: the line of the text with a caret
+//! under the column, a sentence on what is wrong there, and how it is mended. `explain` tells of a
+//! fault, and `notes_on` of what has none and is surely not meant.
+//!
+//! - `line`, `cut`, `cell`, `drawing`: a line of the text, what of it is shown, and what stands
+//!   under it
+//! - `cause`: all that can be wrong, with its sentences; `form`: what a call takes; `page`: all of
+//!   it as a person reads it
+//! - `script`, `open`: the tokens of the text, and what is open at one of them
+//! - `stray`, `unexpected`, `unknown`, `spot`, `parameter`, `attribute`, `pattern`: what is wrong,
+//!   by the kind of the fault
+//! - `remark`, `notes`: what is surely not meant
+//! - `diagnose`, `diagnosis`, `explaining`: the way from a kind and a place to the page
+#![tactic(auto)]
+
+mod attribute;
+mod cause;
+mod cell;
+mod cut;
+mod diagnose;
+mod diagnosis;
+mod drawing;
+mod explaining;
+mod form;
+mod line;
+mod notes;
+mod open;
+mod page;
+mod parameter;
+mod pattern;
+mod remark;
+mod script;
+mod spot;
+mod stray;
+#[cfg(test)]
+mod tests;
+mod unexpected;
+mod unknown;
+
+pub use explaining::explain;
+pub use notes::notes_on;
