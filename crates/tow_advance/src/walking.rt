@@ -18,9 +18,9 @@ use tow_model::{NoMemory, Role};
 use tow_pred::Scratch;
 use tow_program::Program;
 
-/// Goes on with an exchange until it needs something, which the role decides with its plan. Its plan stays the same, so that
-/// the steps of a walk may be split between roles in any way. A loop takes no step after a `blocking`. Takes memory for values, bindings and what actions write; if
-/// it is short, the listeners are those that were added so far.
+/// Goes on with an exchange until it needs something, which the role decides with its plan. Its plan stays the same, so
+/// that the steps of a walk may be split between roles in any way. A loop takes no step after a `blocking`. Takes memory
+/// for values, bindings and what actions write; if it is short, the listeners are those that were added so far.
 pub fn advance(
     alloc: Global,
     scratch: &mut Scratch<'_>,
