@@ -1,7 +1,7 @@
 -- Logs: the lines that they hold, and how often they have failed.
 use Rattle.std.specs.Prelude.{◌≡◌, ℕ, ◌==◌, List, [], ◌∷◌, ◌++◌, filter, length, Option, Some, option_map}
 use Rattle.tow_model.specs.declared.account.Line.{Line}
-use Rattle.tow_host.specs.Faults.{NumberedFaults}
+use Rattle.tow_faults.specs.Faults.{NumberedFaults}
 use Rattle.tow_host.specs.declared.log_sink.Put.{Put}
 use Rattle.tow_host.specs.declared.log_sink.Put.TheVariants.{Stored, Failed}
 

@@ -2,7 +2,7 @@
 
 ghost use Rattle.std.specs.Prelude.{◌≡◌, ℕ, ◌≤◌};
 ghost use Rattle.tow_link.specs.Data.{Rose};
-ghost use Rattle.tow_host.specs.Faults.{KeepsOtherFaults, faults_for};
+ghost use Rattle.tow_faults.specs.Faults.{KeepsOtherFaults, faults_for};
 ghost use Rattle.tow_host.specs.Logs.{LogData, PutAdds, line_told};
 
 /// What became of a line.
