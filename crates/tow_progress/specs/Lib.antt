@@ -1,0 +1,10 @@
+pub mod Progress
+pub mod Runs
+pub mod OnWire
+pub mod Steps
+pub mod Whole
+pub mod Exchanges
+pub mod Ended
+pub mod Accounts
+pub mod Cuts
+pub mod Inside
