@@ -1,0 +1,4 @@
+pub mod Ends
+pub mod Lowest
+pub mod Ranks
+pub mod Tables
