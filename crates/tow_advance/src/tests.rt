@@ -195,14 +195,14 @@ fn instruction(alloc: Global, step: Step) -> Instruction
     Instruction::Do(action)
 }
 
-fn program(alloc: Global, steps: &[Step]) -> Result<Program, AllocError>
+fn program(alloc: Global, steps: &[Step]) -> Result<Program, NoMemory>
     ensures { IfOk result (λ program. program_patterns program ≡ []) }
 {
-    let mut program = List::new(alloc);
+    let mut instructions = List::new(alloc);
     for step in steps {
-        program.push(instruction(alloc, *step))?;
+        instructions.push(instruction(alloc, *step))?;
     }
-    Ok(program)
+    Program::new(alloc, instructions)
 }
 
 fn no_bytes(alloc: Global) -> Bytes {

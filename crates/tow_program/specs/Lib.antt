@@ -1,3 +1,4 @@
+pub mod Actions
 pub mod Programs
 pub mod Runs
 pub mod Laws

@@ -3,4 +3,4 @@ use Rattle.tow_advance.specs.Knowing.{program_patterns}
 use Rattle.tow_advance.proofs.tests.program.Given as goal
 
 abbrev pub invariant-loop-step : goal.invariant-loop-step
-invariant-loop-step l = program_patterns l.program ≡ []
+invariant-loop-step l = program_patterns l.instructions ≡ []
