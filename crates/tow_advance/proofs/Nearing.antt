@@ -1,5 +1,5 @@
 -- Each step leaves less to do, and the plan, the request and the numbers of the exchange.
-use Rattle.std.proofs.Common.{◌≡◌, ℕ, zero, suc, ◌+◌, ◌-◌, ◌*◌, ◌<◌, List, length, slice_get, if◌then◌else◌, Option, Some, None, refl, sym, ap, ap₂, subst, arith}
+use Rattle.std.proofs.Common.{◌≡◌, ℕ, zero, suc, ◌+◌, ◌-◌, ◌*◌, ◌<◌, ◌≤◌, List, [], length, slice_get, if◌then◌else◌, Option, Some, None, refl, sym, ap, ap₂, subst, arith, append-nil, zero-le}
 use Rattle.std.proofs.Math.Nat.{suc-mul}
 use Rattle.std.proofs.lemmas.Option.{slice_get_within}
 use Rattle.tow_model.specs.declared.action.Action.{Action}
@@ -13,8 +13,9 @@ use Rattle.tow_exchange.specs.declared.phase.Phase.TheVariants.{Running}
 use Rattle.tow_exchange.specs.declared.place.Place.TheVariants.{InText, AtDefault}
 use Rattle.tow_program.specs.declared.instruction.Instruction.{Instruction}
 use Rattle.tow_program.specs.declared.instruction.Instruction.TheVariants.{Ask, Do, Skip}
-use Rattle.tow_advance.specs.Moves.{past, acted, taken, left_in, left_of, Stepped}
+use Rattle.tow_advance.specs.Moves.{past, acted, taken, left_in, left_of, places_from, walk_from, walk_left, Stepped}
 use Rattle.tow_advance.proofs.Plans.{taken_plan, not_found_plan}
+use Rattle.tow_advance.proofs.Adding.{taken_keeps}
 
 module _ (program : List Instruction) (e : ExchangeData) (at : ℕ) (is : e.phase ≡ Running) where
   -- what is left at this place
@@ -59,6 +60,46 @@ module _ (program : List Instruction) (e : ExchangeData) (at : ℕ) (is : e.phas
   taken_nearer (Some (Skip k)) some =
       let within = slice_get_within program at (Skip k) some in
       further_on program e at is (past program at k) (past_later program e at is k within) within
+
+-- WHAT IS LEFT, WITH ALL THAT IS TO BE WAITED FOR
+
+module _ (program : List Instruction) (e : ExchangeData) (at : ℕ) (is : e.phase ≡ Running) where
+  -- running on, at a place that is nearer
+  walks_on : (next : ℕ) → at < next → walk_from e.phase (places_from program e.restarts_left (InText next)) ≤ 2 * left_here program e at is
+  walks_on next later =
+      subst (λ p. walk_from p (places_from program e.restarts_left (InText next)) ≤ 2 * left_here program e at is) (sym is)
+      (omega (arith, later))
+
+  begun_walks : (left : ℕ) → e.restarts_left ≡ left → walk_left program (begun_again left e) ≤ 2 * left_here program e at is
+  begun_walks zero none = omega arith
+  begun_walks (suc left) some =
+      let whole : suc left * (length program + 2) ≡ left * (length program + 2) + (length program + 2) = suc-mul left (length program + 2) in
+      let here : left_here program e at is ≡ suc left * (length program + 2) + (length program - at) + 1 =
+      ap (λ n. n * (length program + 2) + (length program - at) + 1) some in
+      subst (λ p. walk_from p (places_from program left (InText 0)) ≤ 2 * left_here program e at is) (sym is) (omega (arith, whole, here))
+
+module _ (program : List Instruction) (e : ExchangeData) (at : ℕ) (is : e.phase ≡ Running) where
+  acted_walks : (a : Action) (effect : Effect) → at < length program →
+      walk_left program (acted a effect (suc at) e) ≤ 2 * left_here program e at is
+  acted_walks a (Takes (Go x)) within = walks_on program e at is (suc at) (omega arith)
+  acted_walks a (Takes (Stop x)) within = omega arith
+  acted_walks a (Asks limit) within = omega (arith, within)
+  acted_walks a ReadsContent within = omega (arith, within)
+  acted_walks a (LooksUp location listing) within = omega (arith, within)
+  acted_walks a BeginsAgain within = begun_walks program (after a e) at is e.restarts_left refl
+  acted_walks a GoesToDefault within = omega arith
+
+  taken_walks : (o : Option Instruction) → slice_get program at ≡ o → walk_left program (taken program o at e) ≤ 2 * left_here program e at is
+  taken_walks None none = omega arith
+  taken_walks (Some (Ask test holds fails)) some =
+      let within = slice_get_within program at (Ask test holds fails) some in
+      let h = held (test_of test e.request e.stand.state e.moment) e.stand.state in
+      let k : ℕ = if h.holds then holds else fails in
+      walks_on program e at is (past program at k) (past_later program e at is k within)
+  taken_walks (Some (Do a)) some =
+      acted_walks a (effect_of a e.request e.stand.state e.moment) (slice_get_within program at (Do a) some)
+  taken_walks (Some (Skip k)) some =
+      walks_on program e at is (past program at k) (past_later program e at is k (slice_get_within program at (Skip k) some))
 
 -- an exchange with the same numbers, request and moment
 record Same (old new : ExchangeData) : Type 0 where
@@ -144,12 +185,18 @@ pub taken_steps : (program : List Instruction) (e : ExchangeData) (at : ℕ) →
     Stepped program e (taken program (slice_get program at) at e)
 taken_steps program e at is here =
     let s = taken_same program (slice_get program at) at e in
+    let k = taken_keeps program (slice_get program at) at e is in
     record {
       plan = taken_plan program e at is here;
       unworked = taken_unworked program (slice_get program at) at e;
       nearer = subst (λ n. left_of program (taken program (slice_get program at) at e) < n)
           (sym (ap₂ (λ p w. left_in program e.restarts_left p w) is here))
           (taken_nearer program e at is (slice_get program at) refl);
+      walks = subst (λ n. walk_left program (taken program (slice_get program at) at e) ≤ n)
+          (sym (ap₂ (λ p w. walk_from p (places_from program e.restarts_left w)) is here))
+          (taken_walks program e at is (slice_get program at) refl);
+      adds = k.adds;
+      unchosen = k.unchosen;
       connection = s.connection;
       number = s.number;
       request = s.request;
@@ -163,6 +210,9 @@ not_found_steps program e is here =
       plan = not_found_plan program e is here;
       unworked = still e.stand.mark;
       nearer = subst (λ n. 0 < n) (sym (ap₂ (λ p w. left_in program e.restarts_left p w) is here)) (omega arith);
+      walks = zero-le;
+      adds = ([], sym (append-nil e.stand.state.listeners));
+      unchosen = λ unchosen live. absurd (live refl);
       connection = refl;
       number = refl;
       request = refl;

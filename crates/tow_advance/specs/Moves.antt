@@ -1,6 +1,9 @@
 -- One instruction of an exchange under way: the exchange that it leaves.
-use Rattle.std.specs.Prelude.{◌≡◌, ℕ, suc, ◌+◌, ◌-◌, ◌*◌, ◌<◌, min, false, List, [], length, slice_get, if◌then◌else◌, Option, Some, None}
+use Rattle.std.specs.Prelude.{◌≡◌, ◌≢◌, ℕ, suc, ◌+◌, ◌-◌, ◌*◌, ◌<◌, ◌≤◌, min, false, List, [], ◌++◌, map, length, slice_get, if◌then◌else◌, Option, Some, None}
 use Rattle.tow_model.specs.declared.request.Field.{Field}
+use Rattle.tow_model.specs.declared.record.Choice.TheVariants.{Undecided}
+use Rattle.tow_model.specs.declared.record.Listener.{Listener}
+use Rattle.tow_model.specs.declared.record.Listener.TheVariants.{Log}
 use Rattle.tow_model.specs.declared.action.Action.{Action}
 use Rattle.tow_model.specs.declared.predicate.Test.{Test}
 use Rattle.tow_semantics.specs.Predicates.{held, test_of}
@@ -9,7 +12,7 @@ use Rattle.tow_semantics.specs.Effects.{Effect, Takes, Asks, ReadsContent, Looks
 use Rattle.tow_semantics.specs.Plans.{Free, Worked}
 use Rattle.tow_exchange.specs.Exchanges.{ExchangeData, after, after_test, begun_again, moved_to, stopped, stopped_with, waiting, with_state}
 use Rattle.tow_exchange.specs.declared.phase.Phase.{Phase}
-use Rattle.tow_exchange.specs.declared.phase.Phase.TheVariants.{Running, AwaitsVerdict, AwaitsContent, AwaitsPage}
+use Rattle.tow_exchange.specs.declared.phase.Phase.TheVariants.{Running, AwaitsVerdict, AwaitsContent, AwaitsPage, Stopped}
 use Rattle.tow_exchange.specs.declared.place.Place.{Place}
 use Rattle.tow_exchange.specs.declared.place.Place.TheVariants.{InText, AtDefault}
 use Rattle.tow_program.specs.declared.instruction.Instruction.{Instruction}
@@ -28,6 +31,21 @@ left_in program restarts other place = 0
 
 abbrev pub left_of : List Instruction → ExchangeData → ℕ
 left_of program e = left_in program e.restarts_left e.phase e.place
+
+-- The places from here to the end of the program, and those of as many whole passes as restarts are left.
+abbrev pub places_from : List Instruction → ℕ → Place → ℕ
+places_from program restarts (InText at) = restarts * (length program + 2) + (length program - at) + 1
+places_from program restarts AtDefault = 0
+
+-- a place counts twice, since an exchange may wait there before it goes on from there
+abbrev pub walk_from : Phase → ℕ → ℕ
+walk_from Running places = 2 * places
+walk_from Stopped places = 0
+walk_from other places = 2 * places + 1
+
+-- How much is left to do at most, with all that is to be waited for. What is given lowers it, and no step raises it.
+abbrev pub walk_left : List Instruction → ExchangeData → ℕ
+walk_left program e = walk_from e.phase (places_from program e.restarts_left e.place)
 
 -- at the default handler's look for a page
 abbrev pub at_default : ExchangeData → ExchangeData
@@ -60,11 +78,22 @@ taken program (Some (Skip passed)) at e = moved_to (InText (past program at pass
 abbrev pub with_context : List Field → ExchangeData → ExchangeData
 with_context context e = record e { stand = record e.stand { state = record e.stand.state { context = context } } }
 
--- what a step leaves: less is left to do, the plan and the request stay
+-- the listeners, and behind them those of some logs
+abbrev pub AddsLogs : List Listener → List Listener → Type 0
+AddsLogs old new = (logs : List ℕ) × (new ≡ old ++ map Log logs)
+
+-- As long as its answer is not decided, its record has chosen none.
+abbrev pub IsUnchosen : ExchangeData → Type 0
+IsUnchosen e = e.phase ≢ Stopped → e.stand.state.choice ≡ Undecided
+
+-- what a step leaves: less is left to do, the plan and the request stay, and no listener is added but those of logs
 pub record Stepped (program : List Instruction) (old new : ExchangeData) : Type 0 where
   pub plan : plan_in program new ≡ plan_in program old
   pub unworked : old.stand.mark ≡ Free → new.stand.mark ≡ Worked → ⊥
   pub nearer : left_of program new < left_of program old
+  pub walks : walk_left program new ≤ walk_left program old
+  pub adds : AddsLogs old.stand.state.listeners new.stand.state.listeners
+  pub unchosen : IsUnchosen old → IsUnchosen new
   pub connection : new.connection ≡ old.connection
   pub number : new.number ≡ old.number
   pub request : new.request ≡ old.request
@@ -81,3 +110,31 @@ abbrev pub NotFoundPlan : Type 0
 NotFoundPlan =
     (program : List Instruction) (e : ExchangeData) → e.phase ≡ Running → e.place ≡ AtDefault →
     plan_in program (stopped_with 404 e) ≡ plan_in program e
+
+-- PAST TESTS THAT FAIL
+
+-- what passing over tests of literal paths that fail leaves: no more is left to do, and the plan, the record and the request stay
+pub record PassedOver (program : List Instruction) (old new : ExchangeData) : Type 0 where
+  pub plan : plan_in program new ≡ plan_in program old
+  pub free : old.stand.mark ≡ Free → new.stand.mark ≡ Free
+  pub left : left_of program new ≤ left_of program old
+  pub walks : walk_left program new ≤ walk_left program old
+  pub state : new.stand.state ≡ old.stand.state
+  pub phase : new.phase ≡ old.phase
+  pub connection : new.connection ≡ old.connection
+  pub number : new.number ≡ old.number
+  pub request : new.request ≡ old.request
+  pub moment : new.moment ≡ old.moment
+
+-- what a step leaves for which the memory is short: an exchange on the way of the plan, but for the bindings of its test
+pub record Halted (program : List Instruction) (old new : ExchangeData) : Type 0 where
+  pub way : (e : ExchangeData) × (plan_in program e ≡ plan_in program old) × (new ≡ with_context new.stand.state.context e)
+  pub unworked : old.stand.mark ≡ Free → new.stand.mark ≡ Worked → ⊥
+  pub walks : walk_left program new ≤ walk_left program old
+  pub phase : new.phase ≡ old.phase
+  pub listeners : new.stand.state.listeners ≡ old.stand.state.listeners
+  pub choice : new.stand.state.choice ≡ old.stand.state.choice
+  pub connection : new.connection ≡ old.connection
+  pub number : new.number ≡ old.number
+  pub request : new.request ≡ old.request
+  pub moment : new.moment ≡ old.moment

@@ -25,8 +25,9 @@ pub(crate) fn hands_on(role: Role, is_for_worker: bool) -> bool
 /// What an exchange that does not run needs. Takes memory for the location of a page.
 pub(crate) fn need(alloc: Global, exchange: &Exchange, role: Role) -> Next
     requires waits { exchange.now.phase ≢ Phase.Running }
-    ensures { result ≢ Next.NoMemory → (program : List Instruction) → result
+    ensures need { result ≢ Next.NoMemory → (program : List Instruction) → result
         ≡ first_need role (plan_in program exchange.now) }
+    ensures open { result ≡ Next.NoMemory → exchange.now.phase ≢ Phase.Stopped }
 {
     match exchange.phase() {
         Phase::Running => unreachable!(),

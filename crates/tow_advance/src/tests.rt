@@ -13,7 +13,7 @@ use std::test::Fail;
 use tow_exchange::Exchange;
 use tow_link::PackMaker;
 use tow_model::{
-    Action, Bytes, Content, Framing, List, NoMemory, Request, Role, Test, Verdict, Version,
+    Action, Bytes, Content, Framing, List, NoMemory, Piece, Request, Role, Test, Verdict, Version,
 };
 use tow_pred::{Scratch, build};
 use tow_program::{Instruction, Program};
@@ -25,6 +25,9 @@ const MOMENT: u64 = 784_111_777;
 enum Step {
     /// A test that holds, or that fails and passes over one instruction.
     Ask(bool),
+    /// A test of the path that passes over one instruction where it fails.
+    Path(&'static str),
+    Rewrite(&'static str),
     Skip(usize),
     Code(u16),
     Limit(u32),
@@ -64,7 +67,52 @@ const WORKER: &[Role] = &[Role::Worker(0)];
 
 const BOTH: &[Role] = &[Role::Loop(0), Role::Worker(0)];
 
+/// Paths that are not the request's, one that is, and one that would be too late.
+const PATHS: &[Step] = &[
+    Step::Path("/a"),
+    Step::Code(403),
+    Step::Path("/c"),
+    Step::Code(403),
+    Step::Path("/b"),
+    Step::Code(204),
+    Step::Path("/b"),
+    Step::Code(403),
+];
+
+/// Paths of which none is the request's.
+const NO_PATH: &[Step] = &[
+    Step::Path("/a"),
+    Step::Code(403),
+    Step::Path("/c"),
+    Step::Code(403),
+];
+
+/// Paths before a `blocking`, and after it.
+const LATE_PATHS: &[Step] = &[
+    Step::Path("/a"),
+    Step::Code(403),
+    Step::Blocking,
+    Step::Path("/a"),
+    Step::Code(403),
+    Step::Path("/b"),
+    Step::Code(204),
+];
+
+/// A path that becomes another one between two statements.
+const REWRITTEN: &[Step] = &[
+    Step::Path("/b"),
+    Step::Rewrite("/c"),
+    Step::Path("/b"),
+    Step::Code(403),
+    Step::Path("/c"),
+    Step::Code(204),
+];
+
 const ROWS: &[Row] = &[
+    (PATHS, LOOP, &[], &[Need::Stop], 204, 0),
+    (NO_PATH, BOTH, &[], &[Need::Worker, Need::Page], 200, 0),
+    (LATE_PATHS, BOTH, &[], &[Need::Worker, Need::Stop], 204, 0),
+    (REWRITTEN, LOOP, &[], &[Need::Stop], 204, 0),
     (&[], WORKER, &[], &[Need::Page], 200, 0),
     (&[], BOTH, &[], &[Need::Worker, Need::Page], 200, 0),
     (&[Step::Code(204)], LOOP, &[], &[Need::Stop], 204, 0),
@@ -165,18 +213,38 @@ const ROWS: &[Row] = &[
     ),
 ];
 
-fn instruction(alloc: Global, step: Step) -> Instruction
-    ensures { instruction_patterns result ≡ [] }
+fn one_text(alloc: Global, text: &str) -> Result<List<Bytes>, AllocError> {
+    let mut texts = List::new(alloc);
+    texts.push(Bytes::from_slice(alloc, text.as_bytes())?)?;
+    Ok(texts)
+}
+
+fn template(alloc: Global, text: &str) -> Result<List<Piece>, AllocError> {
+    let mut pieces = List::new(alloc);
+    pieces.push(Piece::Literal(Bytes::from_slice(alloc, text.as_bytes())?))?;
+    Ok(pieces)
+}
+
+fn instruction(alloc: Global, step: Step) -> Result<Instruction, AllocError>
+    ensures { IfOk result (λ i. instruction_patterns i ≡ []) }
 {
     let action = match step {
         Step::Ask(holds) => {
-            return Instruction::Ask {
+            return Ok(Instruction::Ask {
                 test: if holds { Test::True } else { Test::False },
                 holds: 0,
                 fails: 1,
-            };
+            });
         }
-        Step::Skip(passed) => return Instruction::Skip(passed),
+        Step::Path(text) => {
+            return Ok(Instruction::Ask {
+                test: Test::Path(one_text(alloc, text)?),
+                holds: 0,
+                fails: 1,
+            });
+        }
+        Step::Rewrite(text) => Action::Rewrite(template(alloc, text)?),
+        Step::Skip(passed) => return Ok(Instruction::Skip(passed)),
         Step::Code(status) => Action::ResponseCode(status),
         Step::Limit(number) => Action::RequestLimit { number, most: 1 },
         Step::Log(number) => Action::AccessLog {
@@ -192,7 +260,7 @@ fn instruction(alloc: Global, step: Step) -> Instruction
         Step::Restart => Action::Restart,
         Step::Done => Action::Done,
     };
-    Instruction::Do(action)
+    Ok(Instruction::Do(action))
 }
 
 fn program(alloc: Global, steps: &[Step]) -> Result<Program, NoMemory>
@@ -200,7 +268,7 @@ fn program(alloc: Global, steps: &[Step]) -> Result<Program, NoMemory>
 {
     let mut instructions = List::new(alloc);
     for step in steps {
-        instructions.push(instruction(alloc, *step))?;
+        instructions.push(instruction(alloc, *step)?)?;
     }
     Program::new(alloc, instructions)
 }
@@ -218,7 +286,7 @@ fn opened(alloc: Global) -> Result<Exchange, NoMemory>
         version: Version::V11,
         fields: List::new(alloc),
         url: no_bytes(alloc),
-        path: no_bytes(alloc),
+        path: Bytes::from_slice(alloc, b"/b")?,
         query: None,
         framing: Framing::Empty,
         expects: false,

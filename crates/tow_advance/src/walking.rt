@@ -1,13 +1,15 @@
 //! The loop over the instructions.
 
-ghost use Rattle.std.specs.Prelude.{◌≡◌, ◌≢◌, ◌<◌, ◌↔◌, Bool, IsTrue, OnErr, OnOk, ℕ};
+ghost use Rattle.std.specs.Prelude.{◌≡◌, ◌≢◌, ◌<◌, ◌≤◌, ◌↔◌, Bool, IsTrue, OnErr, OnOk, ℕ};
 ghost use Rattle.tow_model.specs.Dates.{first_undated};
 ghost use Rattle.tow_model.specs.Texts.{Text};
 ghost use Rattle.tow_semantics.specs.Predicates.{AreAmong};
 ghost use Rattle.tow_advance.specs.Knowing.{program_patterns};
-ghost use Rattle.tow_advance.specs.Moves.{Stepped, with_context};
+ghost use Rattle.tow_advance.specs.Moves.{AddsLogs, Halted, IsUnchosen, Stepped, walk_left};
 ghost use Rattle.tow_advance.specs.Needs.{IsUnderWay, StaysForWorker, need_in};
 ghost use Rattle.tow_advance.specs.Under.{plan_in};
+ghost use Rattle.tow_exchange.specs.Exchanges.{after_test, moved_to};
+ghost use Rattle.tow_program.specs.Skips.{skipped};
 
 use crate::need::{hands_on, need};
 use crate::next::Next;
@@ -20,7 +22,8 @@ use tow_program::Program;
 
 /// Goes on with an exchange until it needs something, which the role decides with its plan. Its plan stays the same, so
 /// that the steps of a walk may be split between roles in any way. A loop takes no step after a `blocking`. Takes memory
-/// for values, bindings and what actions write; if it is short, the listeners are those that were added so far.
+/// for values, bindings and what actions write; if it is short, the listeners are those that were added so far, and no
+/// answer is decided. Listeners are only added, and logs alone.
 pub fn advance(
     alloc: Global,
     scratch: &mut Scratch<'_>,
@@ -42,6 +45,10 @@ pub fn advance(
     ensures stays { StaysForWorker role exchange.old.stand.mark exchange.old exchange.new }
     ensures no_memory { result ≡ Next.NoMemory
         → IsUnderWay program.now exchange.old exchange.new }
+    ensures open { result ≡ Next.NoMemory → exchange.new.phase ≢ Phase.Stopped }
+    ensures adds { AddsLogs exchange.old.stand.state.listeners exchange.new.stand.state.listeners }
+    ensures unchosen { IsUnchosen exchange.old → IsUnchosen exchange.new }
+    ensures nearer { walk_left program.now exchange.new ≤ walk_left program.now exchange.old }
     ensures connection { exchange.new.connection ≡ exchange.old.connection }
     ensures number { exchange.new.number ≡ exchange.old.number }
     ensures request { exchange.new.request ≡ exchange.old.request }
@@ -78,7 +85,26 @@ fn is_stopped(exchange: &Exchange) -> bool
     matches!(exchange.phase(), Phase::Stopped)
 }
 
-/// Goes on by one step, which leaves its plan. Takes memory as `take` does.
+/// Passes over the tests of literal paths from `at` on that fail, as one that asks them, and tells where it goes on. Takes no
+/// memory.
+fn pass_failing(program: &Program, exchange: &mut Exchange, at: usize) -> usize
+    ensures place { result ≡ skipped program.now exchange.old.stand.state.path at }
+    ensures stays { result ≡ at → exchange.new ≡ exchange.old }
+    ensures moves { result ≢ at → exchange.new
+        ≡ moved_to (Place.InText result) (after_test exchange.old) }
+    ensures phase { exchange.new.phase ≡ exchange.old.phase }
+    ensures moment { exchange.new.moment ≡ exchange.old.moment }
+{
+    let to = program.skip(at, exchange.state().path.as_slice());
+    if to != at {
+        exchange.note_test();
+        exchange.go_to(Place::InText(to));
+    }
+    to
+}
+
+/// Goes on by one step, which leaves its plan. What tests of literal paths that fail it passes over is part of the step.
+/// Takes memory as `take` does.
 fn step(
     alloc: Global,
     scratch: &mut Scratch<'_>,
@@ -89,12 +115,14 @@ fn step(
     requires among { AreAmong (program_patterns program.now) scratch.old }
     requires running { exchange.old.phase ≡ Phase.Running }
     ensures ok { OnOk result (Stepped program.now exchange.old exchange.new) }
-    ensures err { OnErr result (exchange.new
-        ≡ with_context exchange.new.stand.state.context exchange.old) }
+    ensures err { OnErr result (Halted program.now exchange.old exchange.new) }
     ensures scratch { scratch.new ≡ scratch.old }
 {
     match exchange.place() {
-        Place::InText(at) => take(alloc, scratch, program, exchange, at),
+        Place::InText(at) => {
+            let to = pass_failing(program, exchange, at);
+            take(alloc, scratch, program, exchange, to)
+        }
         Place::AtDefault => {
             exchange.stop_with(404);
             Ok(())

@@ -4,6 +4,7 @@
 
 mod answers;
 mod closes;
+mod content_use;
 mod fields;
 mod refusals;
 mod sorting;
@@ -11,4 +12,5 @@ mod sorting;
 mod tests;
 
 pub use answers::{answer_to, text_of};
+pub use content_use::ContentUse;
 pub use refusals::refusal;

@@ -1,37 +1,58 @@
+//! Answers and refusals.
+
 ghost use Rattle.std.specs.Prelude.{◌≡◌, IfOk};
 
-use crate::{answer_to, refusal, text_of};
+mod rows;
+
+use crate::{ContentUse, answer_to, refusal, text_of};
 use std::alloc::{AllocError, Global};
 use std::process::Abort;
 use std::test::Fail;
 use tow_model::{Bytes, Choice, Field, Framing, List, NoMemory, Record, Request, Version};
 
 /// A request of a connection.
-#[derive(Drop)]
+#[derive(Clone, Copy)]
 struct Asked {
+    method: &'static [u8],
     version: Version,
+    framing: Framing,
+    expects: bool,
     keep: bool,
     number: u32,
 }
 
+const PLAIN: Asked = Asked {
+    method: b"GET",
+    version: Version::V11,
+    framing: Framing::Empty,
+    expects: false,
+    keep: true,
+    number: 1,
+};
+
 fn request(alloc: Global, asked: &Asked) -> Result<Request, AllocError> {
     Ok(Request {
-        method: Bytes::from_slice(alloc, b"GET")?,
+        method: Bytes::from_slice(alloc, asked.method)?,
         target: Bytes::from_slice(alloc, b"/hi")?,
         version: asked.version,
         fields: List::new(alloc),
         url: Bytes::from_slice(alloc, b"/hi")?,
         path: Bytes::from_slice(alloc, b"/hi")?,
         query: None,
-        framing: Framing::Empty,
-        expects: false,
+        framing: asked.framing,
+        expects: asked.expects,
         keep: asked.keep,
         peer: 0,
     })
 }
 
-fn state(alloc: Global, status: u16, fields: List<Field>) -> Result<Record, AllocError>
-    ensures { IfOk result (λ r. r.choice ≡ Choice.Empty) }
+fn state(
+    alloc: Global,
+    status: u16,
+    fields: List<Field>,
+    choice: Choice,
+) -> Result<Record, AllocError>
+    ensures { IfOk result (λ r. r.choice ≡ choice) }
 {
     Ok(Record {
         path: Bytes::from_slice(alloc, b"/hi")?,
@@ -40,35 +61,37 @@ fn state(alloc: Global, status: u16, fields: List<Field>) -> Result<Record, Allo
         fields,
         context: List::new(alloc),
         listeners: List::new(alloc),
-        choice: Choice::Empty,
+        choice,
     })
 }
 
-fn answered(
-    alloc: Global,
-    asked: &Asked,
-    status: u16,
-    fields: List<Field>,
-) -> Result<Bytes, NoMemory> {
-    let request = request(alloc, asked)?;
-    let reply = answer_to(
-        alloc,
-        &request,
-        asked.number,
-        0,
-        state(alloc, status, fields)?,
-    )?;
+/// All the bytes of an answer without content.
+fn answered(alloc: Global, status: u16, fields: List<Field>) -> Result<Bytes, NoMemory> {
+    let request = request(alloc, &PLAIN)?;
+    let state = state(alloc, status, fields, Choice::Empty)?;
+    let reply = answer_to(alloc, &request, 1, 0, ContentUse::Unasked, state)?;
     text_of(alloc, &request, &reply)
 }
 
-fn expect_answer(
-    rt: &impl Abort,
-    alloc: Global,
-    asked: Asked,
-    status: u16,
-    wanted: &str,
-) -> Result<(), NoMemory> {
-    let shown = answered(alloc, &asked, status, List::new(alloc))?;
+#[test]
+fn an_answer_with_a_field_of_the_record(rt: HostRuntime) -> Result<(), Fail> {
+    let mut fields = List::new(rt.alloc());
+    fields.push(Field {
+        name: Bytes::from_slice(rt.alloc(), b"allow")?,
+        value: Bytes::from_slice(rt.alloc(), b"GET, HEAD")?,
+    })?;
+    let shown = answered(rt.alloc(), 405, fields)?;
+    let wanted =
+        "HTTP/1.1 405 Method Not Allowed\r\nallow: GET, HEAD\r\ncontent-length: 0\r\ndate: Thu, 01 Jan 1970 00:00:00 GMT\r\n\r\n";
+    assert_eq!(rt; shown.as_slice(), wanted.as_bytes());
+    Ok(())
+}
+
+#[test]
+fn an_answer_of_64_bytes(rt: HostRuntime) -> Result<(), Fail> {
+    let shown = answered(rt.alloc(), 204, List::new(rt.alloc()))?;
+    let wanted = "HTTP/1.1 204 No Content\r\ndate: Thu, 01 Jan 1970 00:00:00 GMT\r\n\r\n";
+    assert_eq!(rt; shown.len(), 64);
     assert_eq!(rt; shown.as_slice(), wanted.as_bytes());
     Ok(())
 }
@@ -80,76 +103,6 @@ fn expect_refusal(
     wanted: &str,
 ) -> Result<(), NoMemory> {
     let shown = refusal(alloc, status, 0)?;
-    assert_eq!(rt; shown.as_slice(), wanted.as_bytes());
-    Ok(())
-}
-
-#[test]
-fn answers_of_a_connection_that_stays(rt: HostRuntime) -> Result<(), Fail> {
-    let asked = |number| Asked {
-        version: Version::V11,
-        keep: true,
-        number,
-    };
-    let wanted = "HTTP/1.1 204 No Content\r\ndate: Thu, 01 Jan 1970 00:00:00 GMT\r\n\r\n";
-    assert_eq!(rt; wanted.len(), 64);
-    expect_answer(&rt, rt.alloc(), asked(1), 204, wanted)?;
-    expect_answer(
-        &rt,
-        rt.alloc(),
-        asked(999),
-        404,
-        "HTTP/1.1 404 Not Found\r\ncontent-length: 0\r\ndate: Thu, 01 Jan 1970 00:00:00 GMT\r\n\r\n",
-    )?;
-    expect_answer(
-        &rt,
-        rt.alloc(),
-        asked(1000),
-        204,
-        "HTTP/1.1 204 No Content\r\nconnection: close\r\ndate: Thu, 01 Jan 1970 00:00:00 GMT\r\n\r\n",
-    )?;
-    Ok(())
-}
-
-#[test]
-fn answers_to_requests_of_the_old_version(rt: HostRuntime) -> Result<(), Fail> {
-    let asked = |keep| Asked {
-        version: Version::V10,
-        keep,
-        number: 1,
-    };
-    expect_answer(
-        &rt,
-        rt.alloc(),
-        asked(true),
-        204,
-        "HTTP/1.1 204 No Content\r\nconnection: keep-alive\r\ndate: Thu, 01 Jan 1970 00:00:00 GMT\r\n\r\n",
-    )?;
-    expect_answer(
-        &rt,
-        rt.alloc(),
-        asked(false),
-        204,
-        "HTTP/1.1 204 No Content\r\nconnection: close\r\ndate: Thu, 01 Jan 1970 00:00:00 GMT\r\n\r\n",
-    )?;
-    Ok(())
-}
-
-#[test]
-fn an_answer_with_a_field_of_the_record(rt: HostRuntime) -> Result<(), Fail> {
-    let asked = Asked {
-        version: Version::V11,
-        keep: true,
-        number: 1,
-    };
-    let mut fields = List::new(rt.alloc());
-    fields.push(Field {
-        name: Bytes::from_slice(rt.alloc(), b"allow")?,
-        value: Bytes::from_slice(rt.alloc(), b"GET, HEAD")?,
-    })?;
-    let shown = answered(rt.alloc(), &asked, 405, fields)?;
-    let wanted =
-        "HTTP/1.1 405 Method Not Allowed\r\nallow: GET, HEAD\r\ncontent-length: 0\r\ndate: Thu, 01 Jan 1970 00:00:00 GMT\r\n\r\n";
     assert_eq!(rt; shown.as_slice(), wanted.as_bytes());
     Ok(())
 }

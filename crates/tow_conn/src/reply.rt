@@ -8,7 +8,7 @@ ghost use Rattle.tow_site.specs.Compiled.{pattern_texts};
 ghost use Rattle.tow_conn.specs.Conversations.{Answers};
 
 use std::alloc::Global;
-use tow_answer::{answer_to, text_of};
+use tow_answer::{ContentUse, answer_to, text_of};
 use tow_model::{Bytes, NoMemory, Request};
 use tow_pred::Scratch;
 use tow_site::{Site, outcome};
@@ -39,7 +39,7 @@ pub fn reply_to(
     ensures last { IfOk result (λ r. number ≡ 1000 → r.closes ≡ true) }
 {
     let state = outcome(alloc, site, scratch, request, moment)?;
-    let answer = answer_to(alloc, request, number, moment, state)?;
+    let answer = answer_to(alloc, request, number, moment, ContentUse::Unasked, state)?;
     let text = text_of(alloc, request, &answer)?;
     Ok(Reply {
         text,

@@ -1,5 +1,6 @@
 -- What contracts see of an exchange, and how it goes on.
-use Rattle.std.specs.Prelude.{ℕ, zero, suc}
+use Rattle.std.specs.Prelude.{ℕ, zero, suc, List}
+use Rattle.tow_model.specs.declared.request.Field.{Field}
 use Rattle.tow_model.specs.declared.request.Request.{Request}
 use Rattle.tow_model.specs.declared.record.Record.{Record}
 use Rattle.tow_model.specs.declared.account.Verdict.{Verdict}
@@ -104,3 +105,7 @@ content_given c e = step_taken (on_content c e.stand.state) e
 
 abbrev pub page_given : Found → ExchangeData → ExchangeData
 page_given p e = step_taken (on_found p e.stand.state) e
+
+-- with other fields of its record
+abbrev pub with_fields : List Field → ExchangeData → ExchangeData
+with_fields fields e = record e { stand = record e.stand { state = record e.stand.state { fields = fields } } }

@@ -1,6 +1,6 @@
 //! Exchanges from their beginning to their last listener.
 
-ghost use Rattle.std.specs.Prelude.{◌≡◌, IfOk};
+ghost use Rattle.std.specs.Prelude.{◌≡◌, ◌≢◌, IfOk};
 ghost use Rattle.tow_exchange.specs.Exchanges.{with_state};
 
 use crate::{Completed, Dispatch, Exchange, Phase, Place};
@@ -9,8 +9,8 @@ use std::process::Abort;
 use std::test::Fail;
 use tow_model::limits::MAX_RESTARTS;
 use tow_model::{
-    Action, Bytes, Choice, Content, Framing, List, Listener, NoMemory, Record, Request, Verdict,
-    Version,
+    Action, Bytes, Choice, Content, Framing, List, Listener, NoMemory, Page, Record, Request,
+    Verdict, Version,
 };
 
 const MOMENT: u64 = 784_111_777;
@@ -296,6 +296,44 @@ fn a_page_is_waited_for(rt: HostRuntime) -> Result<(), Fail> {
     assert!(rt; matches!(exchange.phase(), Phase::AwaitsPage { listing: true, .. }));
     exchange.stop();
     assert!(rt; matches!(exchange.phase(), Phase::Stopped));
+    Ok(())
+}
+
+/// The exchange once it waited for a page and was given this one.
+fn after_page(alloc: Global, page: Page) -> Result<Exchange, NoMemory>
+    requires no_fault { page ≢ Page.FolderFault }
+    requires no_want { page ≢ Page.NoMemory }
+{
+    let mut exchange = opened(alloc)?;
+    exchange.await_page(Bytes::from_slice(alloc, b"/docs")?, true, Place::InText(1));
+    exchange.give_page(alloc, page)?;
+    Ok(exchange)
+}
+
+fn expect_page(rt: &impl Abort, exchange: &Exchange, is_stopped: bool, status: u16) {
+    assert_eq!(rt; matches!(exchange.phase(), Phase::Stopped), is_stopped);
+    assert_eq!(rt; matches!(exchange.phase(), Phase::Running), !is_stopped);
+    assert_eq!(rt; exchange.state().status, status);
+    assert_eq!(rt; exchange.place(), Place::InText(1));
+}
+
+#[test]
+fn an_exchange_goes_on_by_its_page(rt: HostRuntime) -> Result<(), Fail> {
+    let alloc = rt.alloc();
+    expect_page(&rt, &after_page(alloc, Page::NotFound)?, false, 200);
+    expect_page(&rt, &after_page(alloc, Page::Forbidden)?, true, 403);
+    let path = Bytes::from_slice(alloc, b"/docs/a.css")?;
+    let served = after_page(
+        alloc,
+        Page::Serve {
+            path,
+            len: 3,
+            second: 0,
+        },
+    )?;
+    expect_page(&rt, &served, true, 200);
+    assert!(rt; matches!(served.state().choice, Choice::File { len: 3, .. }));
+    assert_eq!(rt; served.state().fields.len(), 2);
     Ok(())
 }
 

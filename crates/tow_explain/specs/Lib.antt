@@ -5,7 +5,6 @@ pub mod Lines
 pub mod Misplaced
 pub mod Names
 pub mod Pages
-pub mod Remarks
 pub mod Scripts
 pub mod Strays
 pub mod Surroundings

@@ -1,5 +1,5 @@
 -- The tokens of a text, by their index.
-use Rattle.std.specs.Prelude.{ℕ, zero, suc, ◌+◌, ◌-◌, Bool, true, false, ◌&&◌, ◌||◌, nat_le, nat_lt, List, [], length, slice_get, slice_range, bytes_eq, codes, Option, None, Some, if◌then◌else◌}
+use Rattle.std.specs.Prelude.{ℕ, zero, suc, ◌+◌, ◌-◌, Bool, true, false, ◌&&◌, ◌||◌, nat_le, nat_lt, List, [], length, slice_get, slice_range, take_while, bytes_eq, codes, Option, None, Some, if◌then◌else◌}
 use Rattle.tow_language.specs.declared.token.Token.{Token}
 use Rattle.tow_language.specs.declared.token.TokenKind.{TokenKind}
 use Rattle.tow_language.specs.declared.token.TokenKind.TheVariants as kinds
@@ -19,6 +19,10 @@ bytes_of_token text (Some t) = part text t.from t.to
 abbrev pub place_of_token : List ℕ → Option Token → ℕ
 place_of_token text None = length text
 place_of_token text (Some t) = t.from
+
+-- the index of the first token that begins at the place or after it, or the number of tokens
+abbrev pub token_from : ℕ → List Token → ℕ
+token_from place tokens = length (take_while (λ (t : Token). nat_lt t.from place) tokens)
 
 -- what the token of this index is, if there is one
 abbrev pub kind_at : List Token → ℕ → Option TokenKind

@@ -1,11 +1,22 @@
 -- In what a token stands.
-use Rattle.std.specs.Prelude.{ℕ, ◌-◌, Bool, true, false, not, ◌&&◌, nat_lt, List, length, take, slice_index, Option, None, Some, if◌then◌else◌}
+use Rattle.std.specs.Prelude.{ℕ, zero, suc, ◌-◌, Bool, true, false, not, ◌&&◌, nat_lt, List, [], ◌∷◌, ◌++◌, length, take, slice_index, Option, None, Some, if◌then◌else◌}
 use Rattle.tow_language.specs.declared.token.Token.{Token}
 use Rattle.tow_language.specs.declared.token.TokenKind.{TokenKind}
 use Rattle.tow_language.specs.declared.token.TokenKind.TheVariants as kinds
 use Rattle.tow_explain.specs.declared.«open».Within.{Within}
 use Rattle.tow_explain.specs.declared.«open».Within.TheVariants as withins
-use Rattle.tow_explain.specs.Scripts.{before, is_reserved, is_word_kind, kind_at}
+use Rattle.tow_explain.specs.Scripts.{before, closes, is_reserved, is_word_kind, kind_at, opens}
+
+-- what is open after a token, of which this was open before
+abbrev pub open_after : List ℕ → ℕ → Option TokenKind → List ℕ
+open_after brackets i None = brackets
+open_after brackets i (Some kind) =
+    if opens kind then brackets ++ i ∷ [] else (if closes kind then take (length brackets - 1) brackets else brackets)
+
+-- the tokens that open a bracket which is not closed before this one, the outermost first
+abbrev pub open_before : List Token → ℕ → List ℕ
+open_before tokens zero = []
+open_before tokens (suc n) = open_after (open_before tokens n) n (kind_at tokens n)
 
 abbrev pub is_open_brace_kind : Option TokenKind → Bool
 is_open_brace_kind (Some kinds.OpenBrace) = true

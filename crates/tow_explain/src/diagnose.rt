@@ -21,10 +21,55 @@ use tow_language::{Kind, Parameter, Shape, Signature, Token};
 use tow_lex::{LexFault, tokens};
 use tow_model::{Bytes, NoMemory};
 
+/// A token of a text, and the tokens before it that open what is not closed before it.
+#[derive(Clone, Copy)]
+struct Here<'a> {
+    script: Script<'a>,
+    index: usize,
+    open: &'a [usize],
+}
+
+impl<'a> Here<'a> {
+    /// The text that the token spells.
+    fn spelled(&self) -> &'a [u8] {
+        spelled(&self.script, self.index)
+    }
+
+    /// The token that names the call in which the token stands, or the token itself.
+    fn call_name(&self) -> usize {
+        call_name(&self.script, self.index, self.open)
+    }
+
+    /// The row of the tables for that call, if there is one.
+    fn call(&self) -> Option<Signature> {
+        signature_of(self.script.bytes(self.call_name()))
+    }
+
+    /// Whether the token is to be the name of a field.
+    fn is_field_name(&self) -> bool {
+        matches!(
+            shape_at(&self.script, self.index, parameters_of(self.call())),
+            Some(Shape::FieldName)
+        )
+    }
+}
+
 /// What is wrong at the place, where a fault of this kind is. Takes memory.
 pub fn diagnose(alloc: Global, text: &[u8], kind: Kind, place: usize) -> Result<Diagnosis, NoMemory>
     ensures { IfOk result (λ d. kind_of d.cause ≡ kind) }
 {
+    let tokens = tokens_of(alloc, text)?;
+    let script = Script {
+        text,
+        tokens: tokens.as_slice(),
+    };
+    let index = script.token_from(place);
+    let open = open_before(alloc, &script, index)?;
+    let here = Here {
+        script,
+        index,
+        open: open.as_slice(),
+    };
     match kind {
         Kind::TooLong => plain(alloc, Cause::TooLong),
         Kind::UnclosedQuote => plain(alloc, Cause::UnclosedQuote),
@@ -32,13 +77,13 @@ pub fn diagnose(alloc: Global, text: &[u8], kind: Kind, place: usize) -> Result<
         Kind::TooDeep => plain(alloc, Cause::TooDeep),
         Kind::TooManyLimits => plain(alloc, Cause::TooManyLimits),
         Kind::StrayByte => diagnose_stray(alloc, text, place),
-        Kind::BadPattern => diagnose_pattern(alloc, text, place),
-        Kind::LargePattern => diagnose_value(alloc, text, place, Cause::LargePattern),
-        Kind::Unexpected => diagnose_unexpected(alloc, text, place),
-        Kind::UnknownName => diagnose_unknown(alloc, text, place),
-        Kind::BadParameter => diagnose_parameter(alloc, text, place),
-        Kind::BadAttribute => diagnose_attribute(alloc, text, place),
-        Kind::BadTarget => diagnose_target(alloc, text, place),
+        Kind::BadPattern => diagnose_pattern(alloc, &here),
+        Kind::LargePattern => about(alloc, Cause::LargePattern, here.spelled(), None),
+        Kind::Unexpected => diagnose_unexpected(alloc, &here),
+        Kind::UnknownName => diagnose_unknown(alloc, &here),
+        Kind::BadParameter => diagnose_parameter(alloc, &here),
+        Kind::BadAttribute => diagnose_attribute(alloc, &here),
+        Kind::BadTarget => diagnose_target(alloc, &here),
     }
 }
 
@@ -83,38 +128,11 @@ fn diagnose_stray(alloc: Global, text: &[u8], place: usize) -> Result<Diagnosis,
     about(alloc, cause, part(rest, 0, size), None)
 }
 
-/// The diagnosis of this cause, about the value that begins at the place.
-fn diagnose_value(
-    alloc: Global,
-    text: &[u8],
-    place: usize,
-    cause: Cause,
-) -> Result<Diagnosis, NoMemory>
-    ensures { IfOk result (λ d. d.cause ≡ cause) }
-{
-    let tokens = tokens_of(alloc, text)?;
-    let script = Script {
-        text,
-        tokens: tokens.as_slice(),
-    };
-    about(
-        alloc,
-        cause,
-        spelled(&script, script.token_from(place)),
-        None,
-    )
-}
-
-/// The diagnosis of the pattern that begins at the place, with what `regex` says of it.
-fn diagnose_pattern(alloc: Global, text: &[u8], place: usize) -> Result<Diagnosis, NoMemory>
+/// The diagnosis of the pattern that the token is, with what `regex` says of it.
+fn diagnose_pattern(alloc: Global, here: &Here<'_>) -> Result<Diagnosis, NoMemory>
     ensures { IfOk result (λ d. kind_of d.cause ≡ kinds.BadPattern) }
 {
-    let tokens = tokens_of(alloc, text)?;
-    let script = Script {
-        text,
-        tokens: tokens.as_slice(),
-    };
-    let subject = refusal(alloc, spelled(&script, script.token_from(place)))?;
+    let subject = refusal(alloc, here.spelled())?;
     Ok(Diagnosis {
         cause: Cause::NoPattern,
         subject,
@@ -122,21 +140,14 @@ fn diagnose_pattern(alloc: Global, text: &[u8], place: usize) -> Result<Diagnosi
     })
 }
 
-fn diagnose_unexpected(alloc: Global, text: &[u8], place: usize) -> Result<Diagnosis, NoMemory>
+fn diagnose_unexpected(alloc: Global, here: &Here<'_>) -> Result<Diagnosis, NoMemory>
     ensures { IfOk result (λ d. kind_of d.cause ≡ kinds.Unexpected) }
 {
-    let tokens = tokens_of(alloc, text)?;
-    let script = Script {
-        text,
-        tokens: tokens.as_slice(),
-    };
-    let index = script.token_from(place);
-    let open = open_before(alloc, &script, index)?;
-    let cause = unexpected(&script, index, open.as_slice());
+    let cause = unexpected(&here.script, here.index, here.open);
     if cause == Cause::LeftOpen {
-        return left_open(alloc, &script, open.as_slice());
+        return left_open(alloc, &here.script, here.open);
     }
-    about(alloc, cause, one_line(script.bytes(index)), None)
+    about(alloc, cause, one_line(here.script.bytes(here.index)), None)
 }
 
 /// The diagnosis that what the last of these tokens opens is left open.
@@ -166,48 +177,29 @@ fn one_line(bytes: &[u8]) -> &[u8] {
     }
 }
 
-fn diagnose_unknown(alloc: Global, text: &[u8], place: usize) -> Result<Diagnosis, NoMemory>
+fn diagnose_unknown(alloc: Global, here: &Here<'_>) -> Result<Diagnosis, NoMemory>
     ensures { IfOk result (λ d. kind_of d.cause ≡ kinds.UnknownName) }
 {
-    let tokens = tokens_of(alloc, text)?;
-    let script = Script {
-        text,
-        tokens: tokens.as_slice(),
-    };
-    let index = script.token_from(place);
-    let open = open_before(alloc, &script, index)?;
-    let cause = unknown(&script, index, open.as_slice());
-    about(alloc, cause, script.bytes(index), None)
+    let cause = unknown(&here.script, here.index, here.open);
+    about(alloc, cause, here.script.bytes(here.index), None)
 }
 
-fn diagnose_parameter(alloc: Global, text: &[u8], place: usize) -> Result<Diagnosis, NoMemory>
+fn diagnose_parameter(alloc: Global, here: &Here<'_>) -> Result<Diagnosis, NoMemory>
     ensures { IfOk result (λ d. kind_of d.cause ≡ kinds.BadParameter) }
 {
-    let tokens = tokens_of(alloc, text)?;
-    let script = Script {
-        text,
-        tokens: tokens.as_slice(),
-    };
-    let index = script.token_from(place);
-    let open = open_before(alloc, &script, index)?;
-    let name = call_name(&script, index, open.as_slice());
-    let call = signature_of(script.bytes(name));
+    let call = here.call();
     let parameters = parameters_of(call);
     let cause = spot_cause(
-        spot_at(&script, index, open.as_slice(), parameters),
+        spot_at(&here.script, here.index, here.open, parameters),
         parameters,
     );
     if cause == Cause::Missing {
-        return match missing_name(&script, name, parameters) {
+        return match missing_name(&here.script, here.call_name(), parameters) {
             Some(missing) => about(alloc, Cause::Missing, missing, call),
             None => about(alloc, Cause::Missing, b"", call),
         };
     }
-    about(alloc, cause, spelled(&script, index), call)
-}
-
-fn is_field_name(shape: Option<Shape>) -> bool {
-    matches!(shape, Some(Shape::FieldName))
+    about(alloc, cause, here.spelled(), call)
 }
 
 fn parameters_of(call: Option<Signature>) -> &'static [Parameter] {
@@ -217,40 +209,22 @@ fn parameters_of(call: Option<Signature>) -> &'static [Parameter] {
     }
 }
 
-fn diagnose_attribute(alloc: Global, text: &[u8], place: usize) -> Result<Diagnosis, NoMemory>
+fn diagnose_attribute(alloc: Global, here: &Here<'_>) -> Result<Diagnosis, NoMemory>
     ensures { IfOk result (λ d. kind_of d.cause ≡ kinds.BadAttribute) }
 {
-    let tokens = tokens_of(alloc, text)?;
-    let script = Script {
-        text,
-        tokens: tokens.as_slice(),
-    };
-    let index = script.token_from(place);
-    let open = open_before(alloc, &script, index)?;
-    let name = call_name(&script, index, open.as_slice());
-    let call = signature_of(script.bytes(name));
-    if is_field_name(shape_at(&script, index, parameters_of(call))) {
-        return about(alloc, Cause::NoFieldName, spelled(&script, index), call);
+    if here.is_field_name() {
+        return about(alloc, Cause::NoFieldName, here.spelled(), here.call());
     }
-    let end = script.end(name.saturating_add(1));
-    let attribute = bad_attribute(alloc, &script, index, end)?;
+    let end = here.script.end(here.call_name().saturating_add(1));
+    let attribute = bad_attribute(alloc, &here.script, here.index, end)?;
     about(alloc, Cause::NoAttribute, attribute, None)
 }
 
-fn diagnose_target(alloc: Global, text: &[u8], place: usize) -> Result<Diagnosis, NoMemory>
+fn diagnose_target(alloc: Global, here: &Here<'_>) -> Result<Diagnosis, NoMemory>
     ensures { IfOk result (λ d. kind_of d.cause ≡ kinds.BadTarget) }
 {
-    let tokens = tokens_of(alloc, text)?;
-    let script = Script {
-        text,
-        tokens: tokens.as_slice(),
-    };
-    let index = script.token_from(place);
-    let open = open_before(alloc, &script, index)?;
-    let name = call_name(&script, index, open.as_slice());
-    let call = signature_of(script.bytes(name));
-    let value = spelled(&script, index);
-    if is_response_field(value) || is_field_name(shape_at(&script, index, parameters_of(call))) {
+    let value = here.spelled();
+    if is_response_field(value) || here.is_field_name() {
         return about(alloc, Cause::KeptField, value, None);
     }
     about(alloc, Cause::NotWritable, value, None)

@@ -1,6 +1,6 @@
 //! What a person is told of a handlers text that has a fault: the line of the text with a caret
 //! under the column, a sentence on what is wrong there, and how it is mended. `explain` tells of a
-//! fault, and `notes_on` of what has none and is surely not meant.
+//! fault. What looks round a place of a text without one (`Script`, `surroundings`) is public too.
 //!
 //! - `line`, `cut`, `cell`, `drawing`: a line of the text, what of it is shown, and what stands
 //!   under it
@@ -9,7 +9,6 @@
 //! - `script`, `open`: the tokens of the text, and what is open at one of them
 //! - `stray`, `unexpected`, `unknown`, `spot`, `parameter`, `attribute`, `pattern`: what is wrong,
 //!   by the kind of the fault
-//! - `remark`, `notes`: what is surely not meant
 //! - `diagnose`, `diagnosis`, `explaining`: the way from a kind and a place to the page
 #![tactic(auto)]
 
@@ -23,12 +22,10 @@ mod drawing;
 mod explaining;
 mod form;
 mod line;
-mod notes;
 mod open;
 mod page;
 mod parameter;
 mod pattern;
-mod remark;
 mod script;
 mod spot;
 mod stray;
@@ -37,5 +34,11 @@ mod tests;
 mod unexpected;
 mod unknown;
 
+pub use attribute::spelled;
+pub use drawing::{Row, put_row};
 pub use explaining::explain;
-pub use notes::notes_on;
+pub use line::position;
+pub use open::{Within, surroundings, take_token};
+pub use parameter::{shape_at, signature_of};
+pub use script::{Script, closes, opens, part};
+pub use unexpected::{is_named, is_parameter_name};

@@ -1,6 +1,7 @@
 //! The line of a text.
 
-ghost use Rattle.std.specs.Prelude.{◌≡◌, ◌-◌, ◌≤◌, length};
+ghost use Rattle.std.specs.Prelude.{◌≡◌, ◌-◌, ◌≤◌, ◌+◌, ◌==◌, not, length, count_by, take_while, reverse};
+ghost use Rattle.tow_language.specs.Fault.{column_of, line_of};
 ghost use Rattle.tow_explain.specs.Lines as model;
 
 use tow_text::{after, before};
@@ -50,16 +51,34 @@ pub fn place_of(text: &[u8], line: usize, column: usize) -> usize
 }
 
 /// The line and the column, which count from 1, of a place. Takes no memory.
-pub fn position(text: &[u8], place: usize) -> (usize, usize) {
-    let mut line: usize = 1;
-    let mut column: usize = 1;
-    for byte in text.iter().take(place) {
+pub fn position(text: &[u8], place: usize) -> (usize, usize)
+    ensures line { result.0 ≡ line_of text.now place }
+    ensures column { result.1 ≡ column_of text.now place }
+{
+    let front = &text[..place.min(text.len())];
+    (line_behind(front), column_behind(front))
+}
+
+/// The line, from 1, on which these bytes end.
+fn line_behind(front: &[u8]) -> usize
+    ensures { result ≡ 1 + count_by (λ b. b == 10) front.now }
+{
+    let mut line = 1;
+    'bytes: for byte in front {
         if *byte == b'\n' {
-            line = line.saturating_add(1);
-            column = 1;
-        } else {
-            column = column.saturating_add(1);
+            line += 1;
         }
     }
-    (line, column)
+    line
+}
+
+/// The column, from 1, in bytes, at which these bytes end.
+fn column_behind(front: &[u8]) -> usize
+    ensures { result ≡ 1 + length (take_while (λ b. not (b == 10)) (reverse front.now)) }
+{
+    let mut column = 1;
+    'bytes: for byte in front {
+        column = if *byte == b'\n' { 1 } else { column + 1 };
+    }
+    column
 }

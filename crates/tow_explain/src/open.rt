@@ -1,6 +1,6 @@
 //! What is open at a token.
 
-ghost use Rattle.std.specs.Prelude.{◌≡◌};
+ghost use Rattle.std.specs.Prelude.{◌≡◌, IfOk, OnOk};
 ghost use Rattle.tow_explain.specs.Surroundings as model;
 
 use crate::script::{Script, closes, opens};
@@ -20,23 +20,36 @@ pub enum Within {
     Array(usize),
 }
 
-/// The tokens that open a bracket which is not closed before this token, the outermost first.
+/// The tokens that open a bracket which is not closed before this token, the outermost first. Takes
+/// memory for them.
 pub fn open_before(
     alloc: Global,
     script: &Script<'_>,
     index: usize,
-) -> Result<Vec<usize>, AllocError> {
+) -> Result<Vec<usize>, AllocError>
+    ensures { IfOk result (λ v. v.items ≡ model.open_before script.now.tokens.now index) }
+{
     let mut open = Vec::new(alloc);
-    for at in 0..index {
-        match script.kind(at) {
-            Some(kind) if opens(kind) => open.push(at)?,
-            Some(kind) if closes(kind) => {
-                let _closed = open.pop();
-            }
-            _ => {}
-        }
+    'tokens: for at in 0..index {
+        take_token(&mut open, script.kind(at), at)?;
     }
     Ok(open)
+}
+
+/// Takes a token: what is open before it becomes what is open after it. Takes memory.
+pub fn take_token(
+    open: &mut Vec<usize>,
+    kind: Option<TokenKind>,
+    index: usize,
+) -> Result<(), AllocError>
+    ensures { OnOk result (open.new.items ≡ model.open_after open.old.items index kind) }
+{
+    match kind {
+        Some(kind) if opens(kind) => open.push(index)?,
+        Some(kind) if closes(kind) => open.truncate(open.len().saturating_sub(1)),
+        _ => {}
+    }
+    Ok(())
 }
 
 /// In what a token stands before which these are open.

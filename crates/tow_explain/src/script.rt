@@ -14,11 +14,13 @@ pub struct Script<'a> {
 
 impl<'a> Script<'a> {
     /// The first token that begins at the place or after it.
-    pub fn token_from(&self, place: usize) -> usize {
-        match self.tokens.iter().position(|token| token.from >= place) {
-            Some(index) => index,
-            None => self.tokens.len(),
-        }
+    pub fn token_from(&self, place: usize) -> usize
+        ensures { result ≡ model.token_from place self.now.tokens.now }
+    {
+        self.tokens
+            .iter()
+            .take_while(|token| token.from < place)
+            .count()
     }
 
     /// What the token is, if there is one.

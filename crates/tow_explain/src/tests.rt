@@ -1,8 +1,8 @@
-//! What is printed for a fault, in whole, and what is noted on a text without one.
+//! What is printed for a fault, in whole.
 
-mod noting;
+mod faults;
 mod parameters;
-mod remarks;
+mod seconds;
 mod spellings;
 mod telling;
 mod tokens;

@@ -8,9 +8,10 @@ ghost use Rattle.tow_folder.specs.Folders.{FolderData, HasAt, ListsNames, PartFi
 
 use crate::{Listed, Look, Part};
 
-/// A folder of files. A path that it is asked for begins with `/`, is UTF-8, has no NUL byte and no empty segment behind
-/// that `/`, and is `/` for the folder itself. `k` is the number, from 0, of the connection that asks. The folder fails
-/// only if it counts that for this connection. No call changes its files.
+/// A folder of files. A path that it is asked for begins with `/`, is UTF-8, has no NUL byte and no
+/// empty segment behind that `/`, and is `/` for the folder itself. `k` is the number, from 0, of
+/// the connection that asks. The folder fails only if it counts that for this connection. No call
+/// changes its files.
 pub trait Folder {
     /// How often it has failed, by the connection, and, where it tells, its files.
     ghost shows: { Self → FolderData };
@@ -28,8 +29,9 @@ pub trait Folder {
         ensures later { faults_for (shows self.old).faults k ≤ faults_for (shows self.new).faults k }
         ensures others { KeepsOtherFaults (shows self.old).faults (shows self.new).faults k };
 
-    /// Reads some bytes of the file from `at` on, in bytes from its front, into the buffer, which is not empty. A folder
-    /// that tells has more than `at` bytes under this path. Takes no memory of the caller's.
+    /// Reads some bytes of the file from `at` on, in bytes from its front, into the buffer, which
+    /// is not empty. A folder that tells has more than `at` bytes under this path. Takes no memory
+    /// of the caller's.
     fn read_at(&mut self, k: u32, path: &[u8], at: u64, to: &mut [u8]) -> Part
         requires path { is_askable path.now ≡ true }
         requires there { IfSome (shows self.old).told (λ files. HasAt files path.now at) }

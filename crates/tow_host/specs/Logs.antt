@@ -30,13 +30,17 @@ pub record MemoryLogData : Type 0 where
   pub unnoted : ℕ
   pub lines : List Line
 
--- how often a connection stands among them
+-- how often a number stands among these
 abbrev pub times_among : List ℕ → ℕ → ℕ
-times_among refused k = length (filter (λ other. other == k) refused)
+times_among refused number = length (filter (λ other. other == number) refused)
+
+-- the counts of faults, where these numbers were refused, one for each fault, and so many more without memory to note which
+abbrev pub refused_faults : List ℕ → ℕ → NumberedFaults
+refused_faults refused unnoted = record { own = times_among refused; shared = unnoted }
 
 -- all of it, as every log shows it
 abbrev pub memory_log : MemoryLogData → LogData
 memory_log log = record {
-  faults = record { own = times_among log.refused; shared = log.unnoted };
+  faults = refused_faults log.refused log.unnoted;
   lines = Some log.lines;
 }

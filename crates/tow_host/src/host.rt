@@ -5,12 +5,13 @@ ghost use Rattle.std.specs.Result.{is_ok};
 ghost use Rattle.std.specs.Option.{ForSome};
 ghost use Rattle.tow_link.specs.Data.{Rose};
 ghost use Rattle.tow_link.specs.Counts.{count_at, KeepsOthers};
-ghost use Rattle.tow_host.specs.Held.{Held, AsksText, IsFresh, Lends, with_kept};
+ghost use Rattle.tow_faults.specs.Faults.{KeepsOtherFaults, faults_for};
+ghost use Rattle.tow_host.specs.Held.{Held, AsksLog, AsksText, IsFresh, IsNewLog, Lends, with_kept};
 ghost use Rattle.tow_host.specs.Moments.{clock_table};
 ghost use Rattle.tow_host.specs.Texts.{ShowsText};
 ghost use Rattle.tow_model.specs.declared.limits.TheConstants.{FIRST_UNDATED};
 
-use crate::Clock;
+use crate::{Clock, Kept, LogSink};
 use tow_link::{Joined, Maker, Sink, Source};
 
 /// Why a host did not give what it was asked for.
@@ -19,13 +20,6 @@ pub enum HostFault {
     /// The host failed, and counted it under the argument of the call.
     Failed,
     NoMemory,
-}
-
-/// What is handed back to a host. A part that is not there leaves what the host holds.
-#[derive(Drop)]
-pub struct Kept<T: Drop, J: Drop> {
-    pub text: Option<T>,
-    pub streams: Option<J>,
 }
 
 /// The machine as the server sees it. What it handed out is handed back to it, so that a promise of the layers above
@@ -40,6 +34,8 @@ pub trait Host: Maker {
     type Output: Sink + Drop;
 
     type Clock: Clock + Drop;
+
+    type Log: LogSink + Drop;
 
     /// All that contracts see of it.
     ghost held: { Self → Held };
@@ -65,6 +61,18 @@ pub trait Host: Maker {
         ensures table { Self.Clock.table result ≡ clock_table (held self.old).moments moment }
         ensures held { held self.new ≡ held self.old };
 
+    /// The log of this number, from 0. It has not failed yet and, where it tells, has no lines.
+    fn log(&mut self, number: u32) -> Result<Self::Log, HostFault>
+        ensures fresh { IfOk result (λ log. IsNewLog (Self.Log.shows log)) }
+        ensures failed { result ≡ Err HostFault.Failed
+            → Rose (faults_for (held self.old).log_faults number)
+            (faults_for (held self.new).log_faults number) }
+        ensures later { faults_for (held self.old).log_faults number
+            ≤ faults_for (held self.new).log_faults number }
+        ensures others { KeepsOtherFaults (held self.old).log_faults (held self.new).log_faults
+            number }
+        ensures held { AsksLog (is_ok result) (held self.old) (held self.new) };
+
     /// Lends the streams. While they are out, nothing is said of their data in what the host holds. Takes no memory.
     fn lend(&mut self) -> Joined<Self::Input, Self::Output>
         requires { (held self.old).is_home ≡ true }
@@ -73,9 +81,10 @@ pub trait Host: Maker {
         ensures held { Lends (held self.old) (held self.new) };
 
     /// Takes back what is there of the parts, and holds them. Takes no memory.
-    fn take_back(&mut self, kept: Kept<Self::Text, Joined<Self::Input, Self::Output>>)
+    fn take_back(&mut self, kept: Kept<Self::Text, Joined<Self::Input, Self::Output>, Self::Log>)
         ensures held { held self.new
-            ≡ with_kept Self.Text.shows Self.Input.shows Self.Output.shows kept (held self.old) };
+            ≡ with_kept Self.Text.shows Self.Input.shows Self.Output.shows Self.Log.shows kept
+            (held self.old) };
 
     /// Making a pattern changes the counts of large patterns alone, which are those of the maker.
     ghost stays_held: { (old new : Self) → Self.stays old new

@@ -1,10 +1,10 @@
 //! What the server asks of the machine that it runs on: texts by name, clocks, logs, and the streams that a command
 //! reads and prints through. `Host` says what each call gives and leaves as plain data; `MemoryHost` tells all of it.
-//! No host gives logs so far.
 #![tactic(auto)]
 
 mod clock;
 mod host;
+mod kept;
 mod log_sink;
 mod memory_clock;
 mod memory_host;
@@ -12,7 +12,8 @@ mod memory_log;
 mod memory_texts;
 
 pub use clock::Clock;
-pub use host::{Host, HostFault, Kept};
+pub use host::{Host, HostFault};
+pub use kept::{Kept, count_logs, hold_logs, hold_part};
 pub use log_sink::{LogSink, Put};
 pub use memory_clock::{MemoryClock, MomentAt};
 pub use memory_host::MemoryHost;

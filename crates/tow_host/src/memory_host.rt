@@ -1,19 +1,23 @@
 //! A host in memory: its texts, its streams, its moments and what fails are given, and contracts see all of them.
 
-ghost use Rattle.std.specs.Prelude.{◌≡◌, ◌≤◌, [], Some, None, true, nat_lt, option_copied, if◌then◌else◌};
+ghost use Rattle.std.specs.Prelude.{◌≡◌, ◌≤◌, [], Some, None, true, IfOk, nat_lt, option_copied, option_map, slice_get, if◌then◌else◌};
 ghost use Rattle.tow_link.specs.Data.{Rose};
 ghost use Rattle.tow_link.specs.Counts.{count_at, own_counts, KeepsOthers};
+ghost use Rattle.tow_faults.specs.Faults.{KeepsOtherFaults, faults_for};
 ghost use Rattle.tow_host.specs.Held.{no_source, with_kept};
+ghost use Rattle.tow_host.specs.Logs.{memory_log, refused_faults, times_among};
 ghost use Rattle.tow_host.specs.Memory.{memory_held};
 
-use crate::{Host, HostFault, Kept, MemoryClock, MemoryTexts};
-use std::alloc::Global;
+use crate::kept::{count_logs, hold_logs, hold_part};
+use crate::{Host, HostFault, Kept, MemoryClock, MemoryLog, MemoryTexts};
+use std::alloc::{AllocError, Global};
 use std::marker::Model;
 use tow_link::{
     CallNumbers, Joined, KeyCounts, Made, Maker, MemoryMaker, MemorySink, MemorySource,
 };
+use tow_model::{Account, Line};
 
-/// A host in memory, which tells its texts and its moments.
+/// A host in memory, which tells its texts, its moments and the lines of its logs.
 #[derive(Drop)]
 pub struct MemoryHost {
     texts: MemoryTexts,
@@ -25,6 +29,15 @@ pub struct MemoryHost {
     returned: u64,
     streams: Option<Joined<MemorySource, MemorySink>>,
     maker: MemoryMaker,
+    failing_logs: CallNumbers,
+    // the puts that fail, of each log by itself
+    failing_puts: Vec<u64>,
+    logs: Vec<MemoryLog>,
+    logs_handed: u64,
+    logs_returned: u64,
+    // the numbers of the logs that it refused, one for each
+    refused_logs: Vec<u32>,
+    account: Option<Account>,
 }
 
 impl Model for MemoryHost {
@@ -46,13 +59,18 @@ impl Model for MemoryHost {
       output = option_map_or (output_shown (λ output. output)) host.streams no_sink;
       maker = host.maker;
       moments = host.clock;
+      logs = host.logs.items;
+      logs_handed = host.logs_handed;
+      logs_returned = host.logs_returned;
+      refused_logs = host.refused_logs.items;
+      account = host.account;
     } };
 
     ghost invariant = { λ host. is_some host.kept_text ≡ nat_lt 0 host.returned };
 }
 
 impl MemoryHost {
-    /// A host of these parts. The calls of `text` of these numbers, from 0, fail.
+    /// A host of these parts. The calls of `text` of these numbers, from 0, fail, and none of `log`.
     pub fn new(
         alloc: Global,
         texts: MemoryTexts,
@@ -71,6 +89,11 @@ impl MemoryHost {
           output = streams.output;
           maker = own_counts [];
           moments = clock;
+          logs = [];
+          logs_handed = 0;
+          logs_returned = 0;
+          refused_logs = [];
+          account = None;
         } }
     {
         MemoryHost {
@@ -83,6 +106,13 @@ impl MemoryHost {
             returned: 0,
             streams: Some(streams),
             maker: MemoryMaker::new(KeyCounts::new(alloc)),
+            failing_logs: CallNumbers::new(Vec::new(alloc)),
+            failing_puts: Vec::new(alloc),
+            logs: Vec::new(alloc),
+            logs_handed: 0,
+            logs_returned: 0,
+            refused_logs: Vec::new(alloc),
+            account: None,
         }
     }
 
@@ -91,6 +121,18 @@ impl MemoryHost {
         ensures { result ≡ record self { maker = maker } }
     {
         MemoryHost { maker, ..self }
+    }
+
+    /// The same host, of which the calls of `log` of these numbers fail, and of each of its logs the
+    /// puts of those numbers. All count from 0.
+    pub fn with_failing_logs(self, logs: Vec<u64>, puts: Vec<u64>) -> Self
+        ensures { result ≡ self }
+    {
+        MemoryHost {
+            failing_logs: CallNumbers::new(logs),
+            failing_puts: puts,
+            ..self
+        }
     }
 
     /// The input, where it is not lent.
@@ -137,6 +179,54 @@ impl MemoryHost {
     }
 }
 
+impl MemoryHost {
+    /// The logs that were handed back last, in the order of their numbers.
+    pub fn logs(&self) -> &[MemoryLog]
+        ensures { result.now ≡ self.now.logs }
+    {
+        &self.logs
+    }
+
+    /// The lines of the log of this number, if it was handed back.
+    pub fn lines(&self, number: usize) -> Option<&[Line]>
+        ensures { option_copied result
+            ≡ option_map (λ log. log.lines) (slice_get self.now.logs number) }
+    {
+        match self.logs.get(number) {
+            Some(log) => Some(log.lines()),
+            None => None,
+        }
+    }
+
+    /// How many logs were handed out.
+    pub fn logs_handed(&self) -> u64
+        ensures { result ≡ self.now.logs_handed }
+    {
+        self.logs_handed
+    }
+
+    /// How many logs were handed back.
+    pub fn logs_returned(&self) -> u64
+        ensures { result ≡ self.now.logs_returned }
+    {
+        self.logs_returned
+    }
+
+    /// The numbers of the logs that it has refused, one for each, in their order.
+    pub fn refused_logs(&self) -> &[u32]
+        ensures { result.now ≡ self.now.refused_logs }
+    {
+        &self.refused_logs
+    }
+
+    /// The account that was handed back last.
+    pub fn account(&self) -> Option<&Account>
+        ensures { option_copied result ≡ self.now.account }
+    {
+        self.account.as_ref()
+    }
+}
+
 impl Maker for MemoryHost {
     ghost use Rattle.std.proofs.Common.{ap, refl, ◌∙◌};
     ghost use Rattle.tow_host.specs.Memory.{MemoryHostData, MakerAlone};
@@ -164,6 +254,8 @@ impl Host for MemoryHost {
 
     type Clock = MemoryClock;
 
+    type Log = MemoryLog;
+
     ghost use Rattle.std.proofs.Common.{ap};
 
     ghost held = { memory_held };
@@ -190,23 +282,42 @@ impl Host for MemoryHost {
         }
     }
 
+    fn log(&mut self, number: u32) -> Result<MemoryLog, HostFault> {
+        if self.failing_logs.next_is_listed() {
+            return Err(failed_log(&mut self.refused_logs, number));
+        }
+        match new_log(&self.failing_puts) {
+            Ok(log) => {
+                self.logs_handed = self.logs_handed.saturating_add(1);
+                Ok(log)
+            }
+            Err(_) => Err(HostFault::NoMemory),
+        }
+    }
+
     fn lend(&mut self) -> Joined<MemorySource, MemorySink> {
         self.streams.take().unwrap()
     }
 
-    fn take_back(&mut self, kept: Kept<MemorySource, Joined<MemorySource, MemorySink>>)
+    fn take_back(&mut self, kept: Kept<MemorySource, Joined<MemorySource, MemorySink>, MemoryLog>)
         ensures held { memory_held self.new
-            ≡ with_kept (λ text. text) (λ input. input) (λ output. output) kept
+            ≡ with_kept (λ text. text) (λ input. input) (λ output. output) memory_log kept
             (memory_held self.old) }
     {
-        let Kept { text, streams } = kept;
+        let Kept {
+            text,
+            streams,
+            logs,
+            account,
+        } = kept;
         if text.is_some() {
-            self.kept_text = text;
             self.returned = self.returned.saturating_add(1);
         }
-        if streams.is_some() {
-            self.streams = streams;
-        }
+        hold_part(&mut self.kept_text, text);
+        hold_part(&mut self.streams, streams);
+        self.logs_returned = count_logs(self.logs_returned, &logs);
+        hold_logs(&mut self.logs, logs);
+        hold_part(&mut self.account, account);
     }
 
     ghost stays_held = { λ old new stays. ap memory_held stays };
@@ -223,6 +334,27 @@ fn failed(faults: &mut KeyCounts, name: &str) -> HostFault
     ensures others { KeepsOthers (own_counts faults.old) (own_counts faults.new) name.now }
 {
     match faults.raise(name.as_bytes()) {
+        Ok(()) => HostFault::Failed,
+        Err(_) => HostFault::NoMemory,
+    }
+}
+
+/// A new log, of which these puts fail. Takes memory for their numbers.
+fn new_log(failing: &Vec<u64>) -> Result<MemoryLog, AllocError>
+    ensures { IfOk result (λ log. log ≡ record { refused = []; unnoted = 0; lines = [] }) }
+{
+    Ok(MemoryLog::new(*failing.allocator(), failing.clone()?))
+}
+
+/// Counts a fault under the number of a log. Without memory for it there is no count, and want of memory is the answer.
+fn failed_log(refused: &mut Vec<u32>, number: u32) -> HostFault
+    ensures failed { result ≡ HostFault.Failed
+        → Rose (times_among refused.old.items number) (times_among refused.new.items number) }
+    ensures later { times_among refused.old.items number ≤ times_among refused.new.items number }
+    ensures others { KeepsOtherFaults (refused_faults refused.old.items 0)
+        (refused_faults refused.new.items 0) number }
+{
+    match refused.push(number) {
         Ok(()) => HostFault::Failed,
         Err(_) => HostFault::NoMemory,
     }

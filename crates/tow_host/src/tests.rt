@@ -11,6 +11,7 @@ use tow_link::{
     Joined, KeyCounts, Made, Maker, MemoryMaker, MemorySink, MemorySource, Whole, read_whole,
     write_all,
 };
+use tow_model::{Account, End, List};
 
 fn source(alloc: Global, bytes: &[u8]) -> Result<MemorySource, AllocError> {
     Ok(MemorySource::new(bytes.to_vec(alloc)?, Vec::new(alloc)))
@@ -64,6 +65,8 @@ fn text_of<H: Host>(alloc: Global, host: &mut H, name: &str) -> Result<Vec<u8>, 
     host.take_back(Kept {
         text: Some(text),
         streams: None,
+        logs: Vec::new(alloc),
+        account: None,
     });
     match whole {
         Whole::Bytes(bytes) => Ok(bytes),
@@ -103,6 +106,8 @@ fn echo<H: Host>(alloc: Global, host: &mut H)
     host.take_back(Kept {
         text: None,
         streams: Some(streams),
+        logs: Vec::new(alloc),
+        account: None,
     });
 }
 
@@ -216,6 +221,35 @@ fn told(alloc: Global, log: &MemoryLog) -> Result<Vec<u8>, AllocError> {
     Ok(out)
 }
 
+/// Puts the lines into a new log of this number, and adds it to those that will be handed back.
+fn log_once<H: Host>(
+    alloc: Global,
+    host: &mut H,
+    number: u32,
+    logs: &mut Vec<H::Log>,
+) -> Result<(), AllocError> {
+    if let Ok(mut log) = host.log(number) {
+        let _stored = put_all(alloc, &mut log, &LINES)?;
+        logs.push(log)?;
+    }
+    Ok(())
+}
+
+/// Hands these logs back, with an account of so many exchanges.
+fn hand_back<H: Host>(alloc: Global, host: &mut H, logs: Vec<H::Log>, exchanges: u32) {
+    host.take_back(Kept {
+        text: None,
+        streams: None,
+        logs,
+        account: Some(Account {
+            end: End::Done,
+            exchanges,
+            calls: List::new(alloc),
+            hops: List::new(alloc),
+        }),
+    });
+}
+
 /// Lines of two connections, of which the second is to fail.
 const LINES: [(u32, u32, u32, &[u8]); 4] = [
     (0, 1, 1, b"b 204"),
@@ -250,4 +284,96 @@ fn a_new_log_is_empty(rt: HostRuntime) {
     let log = MemoryLog::new(alloc, Vec::new(alloc));
     assert_eq!(rt; log.lines().len(), 0);
     assert_eq!(rt; log.unnoted(), 0);
+}
+
+/// Asks for the logs 2, 5 and 3, and hands back those that it gets, with an account of 4 exchanges.
+fn log_thrice<H: Host>(alloc: Global, host: &mut H) -> Result<(), AllocError> {
+    let mut logs = Vec::new(alloc);
+    for number in [2, 5, 3] {
+        log_once(alloc, host, number, &mut logs)?;
+    }
+    hand_back(alloc, host, logs, 4);
+    Ok(())
+}
+
+/// A host whose second call of `log` fails and the third put of each log, after its logs were asked
+/// for and handed back.
+fn logging_host(alloc: Global) -> Result<MemoryHost, AllocError> {
+    let mut host = host(alloc)?.with_failing_logs([1].to_vec(alloc)?, [2].to_vec(alloc)?);
+    log_thrice(alloc, &mut host)?;
+    Ok(host)
+}
+
+/// The lines of these logs one after the other, with a line `-` behind each log.
+fn told_all(alloc: Global, logs: &[MemoryLog]) -> Result<Vec<u8>, AllocError> {
+    let mut out = Vec::new(alloc);
+    for log in logs {
+        out.extend_from_slice(told(alloc, log)?.as_slice())?;
+        out.extend_from_slice(b"-\n")?;
+    }
+    Ok(out)
+}
+
+/// How many exchanges the account has that was handed back.
+fn exchanges(host: &MemoryHost) -> u32 {
+    match host.account() {
+        Some(account) => account.exchanges,
+        None => 0,
+    }
+}
+
+/// How many lines the log has that was handed back at this place.
+fn line_count(host: &MemoryHost, place: usize) -> u64 {
+    match host.lines(place) {
+        Some(lines) => lines.len() as u64,
+        None => 0,
+    }
+}
+
+/// What a host holds of logs: their lines, the numbers of those that it refused, then how many were
+/// handed out and back, how many exchanges its account has, and how many lines the second log and
+/// the third have.
+type LogsHeld = (Vec<u8>, Vec<u32>, [u64; 5]);
+
+/// What this host holds of logs.
+fn held_of(alloc: Global, host: &MemoryHost) -> Result<LogsHeld, AllocError> {
+    let counts = [
+        host.logs_handed(),
+        host.logs_returned(),
+        exchanges(host) as u64,
+        line_count(host, 1),
+        line_count(host, 2),
+    ];
+    let lines = told_all(alloc, host.logs())?;
+    Ok((lines, host.refused_logs().to_vec(alloc)?, counts))
+}
+
+/// What a host holds of logs after it gave and took some, and then, if so, only a text.
+fn logging(alloc: Global, with_text: bool) -> Result<LogsHeld, AllocError> {
+    let mut host = logging_host(alloc)?;
+    if with_text {
+        let _text = text_of(alloc, &mut host, "a")?;
+    }
+    held_of(alloc, &host)
+}
+
+/// The lines of both logs, whose third put failed.
+const LOGGED: &[u8] =
+    b"0 1 1 b 204\n7 1 0 a 204\n0 2 0 a 404\n-\n0 1 1 b 204\n7 1 0 a 204\n0 2 0 a 404\n-\n";
+
+#[test]
+fn logs_and_the_account_come_back(rt: HostRuntime) -> Result<(), Fail> {
+    let (lines, refused, counts) = logging(rt.alloc(), false)?;
+    assert_eq!(rt; lines.as_slice(), LOGGED);
+    assert_eq!(rt; refused.as_slice(), [5].as_slice());
+    assert_eq!(rt; counts, [2, 2, 4, 3, 0]);
+    Ok(())
+}
+
+#[test]
+fn parts_that_are_not_there_leave_what_is_held(rt: HostRuntime) -> Result<(), Fail> {
+    let (lines, _refused, counts) = logging(rt.alloc(), true)?;
+    assert_eq!(rt; lines.as_slice(), LOGGED);
+    assert_eq!(rt; counts, [2, 2, 4, 3, 0]);
+    Ok(())
 }

@@ -4,7 +4,6 @@ ghost use Rattle.std.specs.Prelude.{
   ◌≡◌,
   ◌<◌,
   ◌≤◌,
-  ◌^◌,
   ◌↔◌,
   IfOk,
   IfSome,
@@ -26,7 +25,7 @@ use tow_model::{List, NoMemory};
 #[derive(Debug, Drop)]
 pub struct Matcher {
     rows: List<Row>,
-    order: Vec<u32>,
+    order: Vec<usize>,
     longest: usize,
 }
 
@@ -65,7 +64,7 @@ fn is_border(path: &[u8], place: usize) -> bool
 }
 
 /// The lower of two numbers that may be missing.
-fn earlier(a: Option<u32>, b: Option<u32>) -> Option<u32>
+fn earlier(a: Option<usize>, b: Option<usize>) -> Option<usize>
     ensures { result ≡ earlier_of a b }
 {
     match (a, b) {
@@ -76,9 +75,8 @@ fn earlier(a: Option<u32>, b: Option<u32>) -> Option<u32>
 }
 
 impl Matcher {
-    /// Of rows that are numbered from 0. Takes memory for four bytes a row; where there is none, the rows are gone.
+    /// Of rows that are numbered from 0. Takes memory for eight bytes a row; where there is none, the rows are gone.
     pub fn new(alloc: Global, rows: List<Row>) -> Result<Matcher, NoMemory>
-        requires { length rows < 2 ^ 32 }
         ensures { IfOk result (λ m. m ≡ rows) }
     {
         let order = table_of(alloc, rows.as_slice())?;
@@ -92,7 +90,7 @@ impl Matcher {
 
     /// The number of the first row from the number `from` on that holds for the path. Takes no memory. Costs two searches
     /// in the table, and one more for each `/` of the path that is not behind the length of the longest prefix.
-    pub fn first(&self, path: &[u8], from: u32) -> Option<u32>
+    pub fn first(&self, path: &[u8], from: usize) -> Option<usize>
         ensures row { result ≡ first_row self.now path.now from }
         ensures within { IfSome result (λ n. (from ≤ n) × (n < length self.now)) }
     {

@@ -1,6 +1,6 @@
 //! The numbers of the rows in the order of their kind, their path and their number, and the search in it.
 
-ghost use Rattle.std.specs.Prelude.{◌≡◌, ◌<◌, ◌^◌, ◌↔◌, IfOk, IsTrue, length};
+ghost use Rattle.std.specs.Prelude.{◌≡◌, ◌↔◌, IfOk, IsTrue};
 ghost use Rattle.tow_matcher.specs.Firsts.{HoldsOf, IsFirst};
 ghost use Rattle.tow_matcher.specs.Keys.{
   AreNumbers,
@@ -22,7 +22,7 @@ use std::cmp::Ordering;
 struct Key<'a> {
     prefix: bool,
     path: &'a [u8],
-    number: u32,
+    number: usize,
 }
 
 impl<'a> Key<'a> {
@@ -41,10 +41,10 @@ impl<'a> Key<'a> {
 }
 
 /// The key of the row of this number.
-fn key_at(rows: &[Row], number: u32) -> Key<'_>
+fn key_at(rows: &[Row], number: usize) -> Key<'_>
     ensures { shown result ≡ rank_at rows.now number }
 {
-    match rows.get(number as usize) {
+    match rows.get(number) {
         Some(row) => Key {
             prefix: row.prefix,
             path: row.path.as_slice(),
@@ -59,24 +59,24 @@ fn key_at(rows: &[Row], number: u32) -> Key<'_>
 }
 
 /// How two rows stand to each other in the table.
-fn compare_rows(rows: &[Row], a: u32, b: u32) -> Ordering
+fn compare_rows(rows: &[Row], a: usize, b: usize) -> Ordering
     ensures { result ≡ rank_cmp (rank_at rows.now a) (rank_at rows.now b) }
 {
     key_at(rows, a).compare(&key_at(rows, b))
 }
 
 /// Whether a row stands before the key in the table.
-fn is_before(rows: &[Row], number: u32, key: &Key<'_>) -> bool
+fn is_before(rows: &[Row], number: usize, key: &Key<'_>) -> bool
     ensures { result ≡ stands_before rows.now (shown key.now) number }
 {
     key_at(rows, number).compare(key).is_lt()
 }
 
 /// The numbers below the count. Takes memory for them.
-fn numbers(alloc: Global, count: u32) -> Result<Vec<u32>, AllocError>
+fn numbers(alloc: Global, count: usize) -> Result<Vec<usize>, AllocError>
     ensures { IfOk result (λ v. AreNumbers count v.items) }
 {
-    let mut numbers = Vec::with_capacity(alloc, count as usize)?;
+    let mut numbers = Vec::with_capacity(alloc, count)?;
     for number in 0..count {
         numbers.push(number)?;
     }
@@ -84,17 +84,16 @@ fn numbers(alloc: Global, count: u32) -> Result<Vec<u32>, AllocError>
 }
 
 /// The numbers of the rows, sorted. Takes memory for them.
-pub(crate) fn table_of(alloc: Global, rows: &[Row]) -> Result<Vec<u32>, AllocError>
-    requires { length rows.now < 2 ^ 32 }
+pub(crate) fn table_of(alloc: Global, rows: &[Row]) -> Result<Vec<usize>, AllocError>
     ensures { IfOk result (λ v. IsTable rows.now v.items) }
 {
-    let mut order = numbers(alloc, rows.len() as u32)?;
+    let mut order = numbers(alloc, rows.len())?;
     order.sort_unstable_by(|a, b| compare_rows(rows, *a, *b));
     Ok(order)
 }
 
 /// The place in the table of the first row that does not stand before the key.
-fn place_of(rows: &[Row], order: &[u32], key: &Key<'_>) -> usize
+fn place_of(rows: &[Row], order: &[usize], key: &Key<'_>) -> usize
     requires { IsTable rows.now order.now }
     ensures { IsPlaceOf rows.now (shown key.now) order.now result }
 {
@@ -102,10 +101,10 @@ fn place_of(rows: &[Row], order: &[u32], key: &Key<'_>) -> usize
 }
 
 /// Whether there is a row of this number, and it is of this kind and this path.
-fn is_row_of(rows: &[Row], number: u32, prefix: bool, path: &[u8]) -> bool
+fn is_row_of(rows: &[Row], number: usize, prefix: bool, path: &[u8]) -> bool
     ensures { IsTrue result ↔ HoldsOf (IsOfKey prefix path.now) rows.now number }
 {
-    match rows.get(number as usize) {
+    match rows.get(number) {
         Some(row) => row.prefix == prefix && row.path.as_slice() == path,
         None => false,
     }
@@ -114,11 +113,11 @@ fn is_row_of(rows: &[Row], number: u32, prefix: bool, path: &[u8]) -> bool
 /// The least number from `from` on of a row of this kind and this path. Costs one search in the table, and takes no memory.
 pub(crate) fn first_of(
     rows: &[Row],
-    order: &[u32],
+    order: &[usize],
     prefix: bool,
     path: &[u8],
-    from: u32,
-) -> Option<u32>
+    from: usize,
+) -> Option<usize>
     requires { IsTable rows.now order.now }
     ensures { IsFirst (IsOfKey prefix path.now) rows.now from result }
 {

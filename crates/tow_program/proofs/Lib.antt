@@ -1,6 +1,9 @@
 pub mod Acting
 pub mod Asking
 pub mod Doing
+pub mod Entering
+pub mod Finding
 pub mod Logs
 pub mod Making
+pub mod Skipping
 pub mod Weights

@@ -1,5 +1,5 @@
 -- What programs do, in words of predicates, statements and texts.
-use Rattle.std.specs.Prelude.{◌≡◌, ℕ, List, ◌++◌, if◌then◌else◌}
+use Rattle.std.specs.Prelude.{◌≡◌, ◌≢◌, ℕ, List, ◌++◌, if◌then◌else◌}
 use Rattle.tow_model.specs.declared.request.Request.{Request}
 use Rattle.tow_model.specs.declared.predicate.Predicate.{Predicate}
 use Rattle.tow_model.specs.declared.statement.Statement.{Statement}
@@ -8,6 +8,7 @@ use Rattle.tow_semantics.specs.Plans.{Stand, Exits, passes, plan_of, tested}
 use Rattle.tow_program.specs.declared.instruction.Instruction.{Instruction}
 use Rattle.tow_program.specs.Programs.{asking, instructions_of, program_of}
 use Rattle.tow_program.specs.Runs.{run, way_in}
+use Rattle.tow_program.specs.Skips.{skipped}
 
 abbrev pub PredicateHolds : Type 0
 PredicateHolds =
@@ -23,3 +24,9 @@ StatementIsPlan =
 abbrev pub ProgramIsPlan : Type 0
 ProgramIsPlan =
     (tree : List Statement) (q : Request) (m left : ℕ) → way_in (program_of tree) q m left 0 ≡ passes tree q m left
+
+-- Where tests of literal paths that fail are passed over, the program goes on as it does by asking them.
+abbrev pub SkippedAreAsked : Type 0
+SkippedAreAsked =
+    (program : List Instruction) (q : Request) (m left at : ℕ) (s : Stand) → skipped program s.state.path at ≢ at →
+    way_in program q m left at s ≡ way_in program q m left (skipped program s.state.path at) (tested s.state s)

@@ -1,4 +1,6 @@
 pub mod Actions
 pub mod Programs
 pub mod Runs
+pub mod Skips
+pub mod Tables
 pub mod Laws

@@ -1,7 +1,7 @@
 //! What a program does, each law as the contract of a function without a body.
 
 ghost use Rattle.tow_program.specs.Actions.{ActionsAreTree, BoundsAreTree, FormatsAreTree};
-ghost use Rattle.tow_program.specs.Laws.{PredicateHolds, ProgramIsPlan, StatementIsPlan};
+ghost use Rattle.tow_program.specs.Laws.{PredicateHolds, ProgramIsPlan, SkippedAreAsked, StatementIsPlan};
 
 /// The instructions of a predicate go on where it leads to, with the bindings of its tests.
 pub fn predicate_holds()
@@ -16,6 +16,11 @@ pub fn statement_is_plan()
 /// The program of a text does what the plan of the text says, its restarts with it.
 pub fn program_is_plan()
     ensures { ProgramIsPlan }
+{}
+
+/// Where tests of literal paths that fail are passed over, the program goes on as it does by asking them.
+pub fn skipped_are_asked()
+    ensures { SkippedAreAsked }
 {}
 
 /// The program of a text has the actions of the text, in its order.

@@ -8,7 +8,9 @@ mod conditions;
 mod instruction;
 pub mod laws;
 mod program;
+mod run;
 mod statements;
+mod table;
 #[cfg(test)]
 mod tests;
 

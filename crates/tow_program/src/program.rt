@@ -4,10 +4,13 @@ ghost use Rattle.std.specs.Prelude.{◌≡◌, ◌<◌, IfOk, OnSome, length, sl
 ghost use Rattle.std.specs.Option.{option_copied};
 ghost use Rattle.tow_program.specs.Actions.{bounds_in, formats_in};
 ghost use Rattle.tow_program.specs.Programs as programs;
+ghost use Rattle.tow_program.specs.Skips.{skipped};
 
 use crate::backwards::Backwards;
 use crate::instruction::Instruction;
+use crate::run::Hop;
 use crate::statements::put_all;
+use crate::table::Table;
 use std::alloc::Global;
 use std::marker::Model;
 use tow_model::{Bound, List, NoMemory, Template, Tree};
@@ -20,11 +23,13 @@ pub struct Program {
     // where its logs are added, in their order
     logs: List<usize>,
     limits: List<Bound>,
+    table: Table,
 }
 
 impl Model for Program {
-    ghost use Rattle.std.specs.Prelude.{◌≡◌, List};
+    ghost use Rattle.std.specs.Prelude.{◌≡◌, List, length};
     ghost use Rattle.tow_program.specs.Actions.{bounds_in, logs_from};
+    ghost use Rattle.tow_program.specs.Tables.{AreEntered};
     ghost use Rattle.tow_program.specs.declared.instruction.Instruction.{Instruction};
 
     ghost Value = { List Instruction };
@@ -32,11 +37,12 @@ impl Model for Program {
     ghost view = { λ p. p.instructions };
 
     ghost invariant = { λ p. (p.logs ≡ logs_from 0 p.instructions)
-        × (p.limits ≡ bounds_in p.instructions) };
+        × (p.limits ≡ bounds_in p.instructions)
+        × AreEntered p.instructions (length p.instructions) p.table.runs p.table.entries.items };
 }
 
 impl Program {
-    /// The program of these instructions. Takes memory to note its logs and limits.
+    /// The program of these instructions. Takes memory to note its logs, its limits and its tests of literal paths.
     pub fn new(alloc: Global, instructions: List<Instruction>) -> Result<Program, NoMemory>
         ensures { IfOk result (λ p. p ≡ instructions) }
     {
@@ -52,10 +58,12 @@ impl Program {
             }
             at += 1;
         }
+        let table = Table::new(alloc, instructions.as_slice())?;
         Ok(Program {
             instructions,
             logs,
             limits,
+            table,
         })
     }
 
@@ -65,6 +73,20 @@ impl Program {
         ensures within { OnSome result (at < length self.now) }
     {
         self.instructions.get(at)
+    }
+
+    /// The first place from `at` on, along tests of literal paths alone that fail for the path, where no such test stands.
+    /// Takes no memory. Costs one look-up for each run of such tests that it leaves.
+    pub fn skip(&self, at: usize, path: &[u8]) -> usize
+        ensures { result ≡ skipped self.now path.now at }
+    {
+        let mut at = at;
+        loop {
+            match self.table.hop(at, path) {
+                Hop::Rests(place) => return place,
+                Hop::Goes(place) => at = place,
+            }
+        }
     }
 
     /// How many instructions there are. Takes no memory.

@@ -1,5 +1,7 @@
 //! The programs of small texts, instruction by instruction.
 
+mod skips;
+
 use crate::{Instruction, program_of};
 use sqlite_items::{Boxed, Items};
 use std::alloc::{AllocError, Global};

@@ -1,13 +1,15 @@
 -- What contracts see of the machine.
-use Rattle.std.specs.Prelude.{ℕ, List, [], Option, None, is_some}
+use Rattle.std.specs.Prelude.{ℕ, List, [], map, Option, None, is_some}
 use Rattle.std.specs.Option.{option_map_or}
+use Rattle.tow_model.specs.declared.account.Account.{Account}
 use Rattle.tow_link.specs.Data.{SourceData, SinkData}
 use Rattle.tow_link.specs.declared.joined.Joined.{Joined}
 use Rattle.tow_host.specs.Held.{Held, no_source, no_sink, input_shown, output_shown}
+use Rattle.tow_host.specs.Logs.{LogData}
 
--- It tells no content. One counter of faults stands for each text, and one of large patterns for each pattern.
-abbrev pub machine_held : {T I O : Type 0} → (T → SourceData) → (I → SourceData) → (O → SinkData) → Option T → ℕ → ℕ → ℕ → Option (Joined I O) → ℕ → Held
-machine_held text_shows input_shows output_shows text handed returned faults streams larges = record {
+-- It tells no content. One counter of faults stands for each text, and one of large patterns for each pattern. No log is refused.
+abbrev pub machine_held : {T I O G : Type 0} → (T → SourceData) → (I → SourceData) → (O → SinkData) → (G → LogData) → Option T → ℕ → ℕ → ℕ → Option (Joined I O) → ℕ → List G → ℕ → ℕ → Option Account → Held
+machine_held text_shows input_shows output_shows log_shows text handed returned faults streams larges logs logs_handed logs_returned account = record {
   text = option_map_or text_shows text no_source;
   handed = handed;
   returned = returned;
@@ -18,4 +20,9 @@ machine_held text_shows input_shows output_shows text handed returned faults str
   output = option_map_or (output_shown output_shows) streams no_sink;
   larges = λ pattern. larges;
   moments = None;
+  logs = map log_shows logs;
+  logs_handed = logs_handed;
+  logs_returned = logs_returned;
+  log_faults = record { own = λ number. 0; shared = 0 };
+  account = account;
 }

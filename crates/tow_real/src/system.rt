@@ -1,19 +1,23 @@
-//! The machine as a host: its standard streams and its text files.
+//! The machine as a host: its standard streams, its text files and its log files.
 
 ghost use Rattle.std.specs.Prelude.{◌≡◌, true};
 ghost use Rattle.tow_host.specs.Held.{with_kept};
 ghost use Rattle.tow_real.specs.Machine.{machine_held};
 
 use crate::clock::SystemClock;
+use crate::failure::{Failure, Task};
+use crate::log::SystemLog;
 use crate::streams::{Reading, Writing};
+use crate::text::FileText;
 use std::alloc::Global;
 use std::fs::File;
-use std::io::{Stdin, Stdout};
+use std::io::{Error, Stdin, Stdout};
 use std::rt::HostRuntime;
-use tow_host::{Host, HostFault, Kept};
+use tow_host::{Host, HostFault, Kept, LogSink, count_logs, hold_logs, hold_part};
 use tow_link::{Joined, Made, Maker, PackMaker, Sink, Source};
+use tow_model::Account;
 
-/// The machine, whose one counter of faults stands for each of its calls.
+/// The machine, whose one counter of faults stands for each name of a text. It never refuses a log.
 #[derive(Drop)]
 pub struct SystemHost {
     rt: HostRuntime,
@@ -21,8 +25,16 @@ pub struct SystemHost {
     handed: u64,
     returned: u64,
     streams: Option<Joined<Reading<Stdin>, Writing<Stdout>>>,
-    kept_text: Option<Reading<File>>,
+    kept_text: Option<FileText>,
     maker: PackMaker,
+    logs: Vec<SystemLog>,
+    logs_handed: u64,
+    logs_returned: u64,
+    account: Option<Account>,
+    // the name of the text that was asked for last, if there was memory for it
+    text_name: Option<String>,
+    // what the system said, if that text could not be had
+    text_reason: Option<Error>,
 }
 
 impl SystemHost {
@@ -30,14 +42,8 @@ impl SystemHost {
     pub fn new(rt: HostRuntime) -> SystemHost
         ensures home { (⟦<SystemHost as Host>⟧.held result).is_home ≡ true }
     {
-        let input = Reading {
-            inner: rt.stdin(),
-            faults: 0,
-        };
-        let output = Writing {
-            inner: rt.stdout(),
-            faults: 0,
-        };
+        let input = Reading::new(rt.stdin());
+        let output = Writing::new(rt.stdout());
         SystemHost {
             rt,
             faults: 0,
@@ -46,6 +52,58 @@ impl SystemHost {
             streams: Some(Joined { input, output }),
             kept_text: None,
             maker: PackMaker::new(),
+            logs: Vec::new(rt.alloc()),
+            logs_handed: 0,
+            logs_returned: 0,
+            account: None,
+            text_name: None,
+            text_reason: None,
+        }
+    }
+
+    /// What was read of the text that was handed back last, if there was memory to keep it.
+    pub fn text_read(&self) -> Option<&[u8]> {
+        match &self.kept_text {
+            Some(text) => text.bytes(),
+            None => None,
+        }
+    }
+
+    /// That the text that was asked for last could not be had or read, and why.
+    pub fn text_failure(&self) -> Failure<'_> {
+        let name = match &self.text_name {
+            Some(name) => name.as_str(),
+            None => "",
+        };
+        Failure {
+            task: Task::Text(name),
+            reason: self.text_reason.or(self.read_reason()),
+        }
+    }
+
+    /// What the system said at the first failed read of the text that was handed back last.
+    fn read_reason(&self) -> Option<Error> {
+        match &self.kept_text {
+            Some(text) => text.reason(),
+            None => None,
+        }
+    }
+
+    /// That the standard input could not be read or the standard output written, and why.
+    pub fn stream_failure(&self) -> Failure<'_> {
+        let (read, written) = match &self.streams {
+            Some(streams) => (streams.input.reason(), streams.output.reason()),
+            None => (None, None),
+        };
+        match read {
+            Some(_) => Failure {
+                task: Task::Input,
+                reason: read,
+            },
+            None => Failure {
+                task: Task::Output,
+                reason: written,
+            },
         }
     }
 }
@@ -72,7 +130,7 @@ impl Host for SystemHost {
     ghost use Rattle.std.proofs.Common.{ap};
     ghost use Rattle.tow_real.specs.declared.system.SystemHost.{SystemHost};
 
-    type Text = Reading<File>;
+    type Text = FileText;
 
     type Input = Reading<Stdin>;
 
@@ -80,21 +138,32 @@ impl Host for SystemHost {
 
     type Clock = SystemClock;
 
-    ghost held = { λ host. machine_held ⟦<Reading<File> as Source>⟧.shows ⟦<Reading<Stdin> as Source>⟧.shows
-        ⟦<Writing<Stdout> as Sink>⟧.shows host.kept_text host.handed host.returned host.faults
-        host.streams host.maker };
+    type Log = SystemLog;
 
-    fn text(&mut self, name: &str) -> Result<Reading<File>, HostFault> {
+    ghost held = { λ host. machine_held ⟦<FileText as Source>⟧.shows ⟦<Reading<Stdin> as Source>⟧.shows
+        ⟦<Writing<Stdout> as Sink>⟧.shows ⟦<SystemLog as LogSink>⟧.shows host.kept_text host.handed
+        host.returned host.faults host.streams host.maker host.logs.items host.logs_handed
+        host.logs_returned host.account };
+
+    fn text(&mut self, name: &str) -> Result<FileText, HostFault> {
+        self.text_name = String::from_str(self.rt.alloc(), name).ok();
         match File::open(&self.rt, name) {
-            Ok(inner) => {
+            Ok(file) => {
+                self.text_reason = None;
                 self.handed = self.handed.saturating_add(1);
-                Ok(Reading { inner, faults: 0 })
+                Ok(FileText::new(self.rt.alloc(), file))
             }
-            Err(_) => {
+            Err(error) => {
+                self.text_reason = Some(error);
                 self.faults = self.faults.saturating_add(1);
                 Err(HostFault::Failed)
             }
         }
+    }
+
+    fn log(&mut self, number: u32) -> Result<SystemLog, HostFault> {
+        self.logs_handed = self.logs_handed.saturating_add(1);
+        Ok(SystemLog::new(self.rt, number))
     }
 
     fn clock(&mut self, moment: Option<u64>) -> SystemClock {
@@ -105,23 +174,35 @@ impl Host for SystemHost {
         self.streams.take().unwrap()
     }
 
-    fn take_back(&mut self, kept: Kept<Reading<File>, Joined<Reading<Stdin>, Writing<Stdout>>>)
+    #[tactic(auto, using(tow_host::proofs::Holding::shows_held))]
+    fn take_back(
+        &mut self,
+        kept: Kept<FileText, Joined<Reading<Stdin>, Writing<Stdout>>, SystemLog>,
+    )
         ensures held { ⟦<SystemHost as Host>⟧.held self.new
-            ≡ with_kept ⟦<Reading<File> as Source>⟧.shows ⟦<Reading<Stdin> as Source>⟧.shows
-            ⟦<Writing<Stdout> as Sink>⟧.shows kept (⟦<SystemHost as Host>⟧.held self.old) }
+            ≡ with_kept ⟦<FileText as Source>⟧.shows ⟦<Reading<Stdin> as Source>⟧.shows
+            ⟦<Writing<Stdout> as Sink>⟧.shows ⟦<SystemLog as LogSink>⟧.shows kept
+            (⟦<SystemHost as Host>⟧.held self.old) }
     {
-        let Kept { text, streams } = kept;
+        let Kept {
+            text,
+            streams,
+            logs,
+            account,
+        } = kept;
         if text.is_some() {
-            self.kept_text = text;
             self.returned = self.returned.saturating_add(1);
         }
-        if streams.is_some() {
-            self.streams = streams;
-        }
+        hold_part(&mut self.kept_text, text);
+        hold_part(&mut self.streams, streams);
+        self.logs_returned = count_logs(self.logs_returned, &logs);
+        hold_logs(&mut self.logs, logs);
+        hold_part(&mut self.account, account);
     }
 
     ghost stays_held = { λ old new stays. ap
-        (λ (host : SystemHost). machine_held ⟦<Reading<File> as Source>⟧.shows ⟦<Reading<Stdin> as Source>⟧.shows
-        ⟦<Writing<Stdout> as Sink>⟧.shows host.kept_text host.handed host.returned host.faults
-        host.streams host.maker) stays };
+        (λ (host : SystemHost). machine_held ⟦<FileText as Source>⟧.shows ⟦<Reading<Stdin> as Source>⟧.shows
+        ⟦<Writing<Stdout> as Sink>⟧.shows ⟦<SystemLog as LogSink>⟧.shows host.kept_text host.handed
+        host.returned host.faults host.streams host.maker host.logs.items host.logs_handed
+        host.logs_returned host.account) stays };
 }

@@ -1,27 +1,24 @@
-//! The adapters over bytes that stand in memory.
+//! The adapters over bytes that stand in memory, and the host over files of the current folder, which it removes.
 
 use super::*;
 use std::alloc::{AllocError, Global};
+use std::fs;
+use std::rt::HostRuntime;
 use std::test::Fail;
+use tow_host::{Host, Kept, LogSink, Put};
 use tow_link::{Whole, read_whole, write_all};
 
 /// The bytes of a source over these, read to the end.
 fn read_back(alloc: Global, bytes: &[u8]) -> Whole {
-    let mut source = Reading {
-        inner: bytes,
-        faults: 0,
-    };
+    let mut source = Reading::new(bytes);
     read_whole(alloc, &mut source, 9)
 }
 
 /// What a sink over a list has after these bytes.
 fn written(alloc: Global, bytes: &[u8]) -> Result<Vec<u8>, AllocError> {
-    let mut sink = Writing {
-        inner: Vec::new(alloc),
-        faults: 0,
-    };
+    let mut sink = Writing::new(Vec::new(alloc));
     let _failed = write_all(&mut sink, bytes);
-    Ok(sink.inner)
+    sink.inner().clone()
 }
 
 #[test]
@@ -35,5 +32,79 @@ fn bytes_pass_unchanged(rt: HostRuntime) -> Result<(), Fail> {
         written(alloc, b"one\0two")?.as_slice(),
         b"one\0two".as_slice()
     );
+    Ok(())
+}
+
+/// The number of a log that nobody else writes.
+const LOG: u32 = 4_000_000_000;
+
+const LOG_NAME: &str = "access-4000000000.log";
+
+/// Puts lines into a log of the machine that was just handed out.
+fn log_lines(rt: HostRuntime, lines: &[&[u8]]) -> bool {
+    let mut host = SystemHost::new(rt);
+    let Ok(mut log) = host.log(LOG) else {
+        return false;
+    };
+    let mut stored = true;
+    for line in lines {
+        stored = stored && log.put(0, 1, LOG, line) == Put::Stored;
+    }
+    stored
+}
+
+#[test]
+fn a_log_file_gains_its_lines(rt: HostRuntime) -> Result<(), Fail> {
+    let _ = fs::remove_file(&rt, LOG_NAME);
+    assert!(rt; log_lines(rt, &[]));
+    assert!(rt; fs::read(&rt, LOG_NAME).is_err());
+    assert!(rt; log_lines(rt, &[b"a 204", b""]));
+    assert!(rt; log_lines(rt, &[b"b 404"]));
+    let lines = fs::read(&rt, LOG_NAME).map_err(|_| "read")?;
+    fs::remove_file(&rt, LOG_NAME).map_err(|_| "remove")?;
+    assert_eq!(rt; lines.as_slice(), b"a 204\n\nb 404\n".as_slice());
+    Ok(())
+}
+
+const TEXT_NAME: &str = "a-text-of-a-test.txt";
+
+/// Reads a text of the machine, hands it back, and says what was read of it then.
+fn text_back(rt: HostRuntime, host: &mut SystemHost) -> bool {
+    let Ok(mut text) = host.text(TEXT_NAME) else {
+        return false;
+    };
+    let whole = read_whole(rt.alloc(), &mut text, 9);
+    host.take_back(Kept {
+        text: Some(text),
+        streams: None,
+        logs: Vec::new(rt.alloc()),
+        account: None,
+    });
+    matches!(whole, Whole::Bytes(_))
+}
+
+#[test]
+fn a_text_that_was_read_is_kept(rt: HostRuntime) -> Result<(), Fail> {
+    let mut host = SystemHost::new(rt);
+    assert!(rt; host.text_read().is_none());
+    fs::write(&rt, TEXT_NAME, b"done").map_err(|_| "write")?;
+    let was_read = text_back(rt, &mut host);
+    fs::remove_file(&rt, TEXT_NAME).map_err(|_| "remove")?;
+    assert!(rt; was_read);
+    assert_eq!(rt; host.text_read().ok_or("kept")?, b"done".as_slice());
+    Ok(())
+}
+
+#[test]
+fn a_failure_has_a_name_and_a_reason(rt: HostRuntime) -> Result<(), Fail> {
+    let mut host = SystemHost::new(rt);
+    assert!(rt; host.text("no-such-text.txt").is_err());
+    let told = format!(in rt.alloc(); "{}", host.text_failure())?;
+    assert_eq!(rt;
+        told.as_str(),
+        "cannot read the handlers text 'no-such-text.txt': No such file or directory (os error 2)"
+    );
+    let told = format!(in rt.alloc(); "{}", host.stream_failure())?;
+    assert_eq!(rt; told.as_str(), "cannot write to the standard output");
     Ok(())
 }

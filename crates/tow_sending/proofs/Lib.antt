@@ -4,3 +4,4 @@ pub mod Steps
 pub mod Hex
 pub mod ReadLemmas
 pub mod PlaceLemmas
+pub mod FileTests

@@ -1,7 +1,9 @@
-//! Answers through pipes, piece by piece, but for the pieces of files.
+//! Answers through pipes, piece by piece.
 
 ghost use Rattle.std.specs.Prelude.{◌≡◌, true, IfOk};
 ghost use Rattle.tow_sending.specs.Pieces.{IsAskable};
+
+mod files;
 
 use crate::{Sending, Sent};
 use std::alloc::{AllocError, Global};

@@ -2,7 +2,7 @@
 use Rattle.std.proofs.Common.{◌≡◌, ℕ, ◌≤◌, ◌⊎◌, inl, inr, Bool, true, false, List, [], ◌++◌, length, Option, Some, None, sym, ap, ◌∙◌, subst, arith, length-append}
 use Rattle.std.proofs.lemmas.List.{append-nil}
 use Rattle.std.proofs.lemmas.Option.{same_Some}
-use Rattle.std.specs.Prelude.{IfSome, IsSomeAnd}
+use Rattle.std.specs.Prelude.{IfSome, IsSomeAnd, ⊤}
 use Rattle.tow_link.specs.Data.{Told, SourceData, Rose}
 use Rattle.tow_host.specs.Held.{Held}
 use Rattle.tow_host.specs.Texts.{text_named}
@@ -11,7 +11,7 @@ use Rattle.tow_site.proofs.Sites.{one_site, no_site_at_fault, no_site_at_pattern
 use Rattle.tow_server.specs.declared.status.Status.{Status}
 use Rattle.tow_server.specs.declared.status.Status.TheVariants.{Done, Text, HostFault, NoMemory, StreamFault}
 use Rattle.tow_server.specs.Lines.{IsRefusal}
-use Rattle.tow_server.specs.Texts.{Texts, IsNamed, IsRead, IsRightText, NothingFailed, Refuses, ReturnsText, TextCallFailed, TextSourceFailed}
+use Rattle.tow_server.specs.Texts.{Texts, Compiles, IsMissingText, IsNamed, IsRead, IsRightText, IsWrongText, NothingFailed, Refuses, ReturnsText, TextCallFailed, TextComes, TextSourceFailed}
 
 module _ (before now : List ℕ → ℕ) (none_rose : (pattern : List ℕ) → Rose (before pattern) (now pattern) → ⊥) where
   -- the text of a site that is built is not refused
@@ -71,3 +71,54 @@ completes is_built name status old new (inr (inl is)) text refused host stream r
 completes is_built name status old new (inr (inr is)) text refused host stream right fine =
     let r = refused is in
     absurd (not_refused old.larges new.larges fine.patterns is_built old.texts name new.text r.bytes r.line right (text is).named r.read r.refusal)
+
+-- Where there is no text of this name, its source cannot have come back.
+pub misses : (name : List ℕ) (status : Status) (old new : Held)
+    → ((((status ≡ Done) ⊎ (status ≡ StreamFault)) ⊎ (status ≡ NoMemory)) ⊎ ((status ≡ HostFault) ⊎ (status ≡ Text)))
+    → (((status ≡ Done) ⊎ (status ≡ StreamFault)) ⊎ (status ≡ Text) → ReturnsText name old new) → IsMissingText old.texts name → (status ≡ HostFault) ⊎ (status ≡ NoMemory)
+misses name status old new ends returns missing = by ends
+  where
+    none : (texts : Texts) → IsMissingText texts name → IsNamed texts name new.text → ⊥
+    none None missing named = absurd missing
+    none (Some texts) missing named = told new.text.told named
+      where
+        told : (told : Option Told) → IsSomeAnd told (λ t. text_named texts name ≡ Some (t.read ++ t.left)) → ⊥
+        told None named = absurd named
+        told (Some t) named = let wrong : None ≡ Some (t.read ++ t.left) = sym missing ∙ named in cc
+
+    by : ((((status ≡ Done) ⊎ (status ≡ StreamFault)) ⊎ (status ≡ NoMemory)) ⊎ ((status ≡ HostFault) ⊎ (status ≡ Text))) → (status ≡ HostFault) ⊎ (status ≡ NoMemory)
+    by (inl (inl (inl is))) = absurd (none old.texts missing (returns (inl (inl is))).named)
+    by (inl (inl (inr is))) = absurd (none old.texts missing (returns (inl (inr is))).named)
+    by (inl (inr is)) = inr is
+    by (inr (inl is)) = inl is
+    by (inr (inr is)) = absurd (none old.texts missing (returns (inr is)).named)
+
+-- Where the text is wrong and could be had and read, nothing can have been served.
+pub refuses_wrong : (is_built : SiteData → Bool) (name : List ℕ) (status : Status) (old new : Held)
+    → ((((status ≡ Done) ⊎ (status ≡ StreamFault)) ⊎ (status ≡ NoMemory)) ⊎ ((status ≡ HostFault) ⊎ (status ≡ Text)))
+    → (((status ≡ Done) ⊎ (status ≡ StreamFault)) ⊎ (status ≡ Text) → ReturnsText name old new) → ((status ≡ Done) ⊎ (status ≡ StreamFault) → Compiles is_built new.text (λ _. ⊤))
+    → (status ≡ HostFault → TextSourceFailed name old new ⊎ TextCallFailed name old new) → IsWrongText is_built old.texts name → TextComes name old new → (status ≡ Text) ⊎ (status ≡ NoMemory)
+refuses_wrong is_built name status old new ends returns right host wrong comes = by ends
+  where
+    none : (texts : Texts) → IsWrongText is_built texts name → IsNamed texts name new.text → Compiles is_built new.text (λ _. ⊤) → ⊥
+    none None wrong named right = absurd wrong
+    none (Some texts) wrong named right = at (text_named texts name) wrong new.text.told named right
+      where
+        at : (found : Option (List ℕ)) → IsSomeAnd found (λ bytes. (site : SiteData) → IsSiteOf bytes site → is_built site ≡ true → ⊥) → (told : Option Told)
+            → IsSomeAnd told (λ t. found ≡ Some (t.read ++ t.left)) → IfSome told (λ t. (t.left ≡ []) × ((site : SiteData) × IsSiteOf t.read site × (is_built site ≡ true) × ⊤)) → ⊥
+        at None wrong told named right = absurd wrong
+        at (Some bytes) wrong None named right = absurd named
+        at (Some bytes) wrong (Some t) named (left, (site, is, built, _)) =
+            let all : bytes ≡ t.read = same_Some bytes (t.read ++ t.left) named ∙ ap (λ (l : List ℕ). t.read ++ l) left ∙ append-nil t.read in
+            wrong site (subst (λ (l : List ℕ). IsSiteOf l site) (sym all) is) built
+
+    failed : TextSourceFailed name old new ⊎ TextCallFailed name old new → ⊥
+    failed (inl source) = comes.source source
+    failed (inr call) = comes.call call
+
+    by : ((((status ≡ Done) ⊎ (status ≡ StreamFault)) ⊎ (status ≡ NoMemory)) ⊎ ((status ≡ HostFault) ⊎ (status ≡ Text))) → (status ≡ Text) ⊎ (status ≡ NoMemory)
+    by (inl (inl (inl is))) = absurd (none old.texts wrong (returns (inl (inl is))).named (right (inl is)))
+    by (inl (inl (inr is))) = absurd (none old.texts wrong (returns (inl (inr is))).named (right (inr is)))
+    by (inl (inr is)) = inr is
+    by (inr (inl is)) = absurd (failed (host is))
+    by (inr (inr is)) = inl is

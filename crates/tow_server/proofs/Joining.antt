@@ -1,6 +1,6 @@
 -- How the steps of a command join.
 use Rattle.std.proofs.Common.{◌≡◌, ◌≢◌, ℕ, ◌+◌, ◌<◌, ◌≤◌, ◌⊎◌, inl, inr, Bool, true, false, List, [], length, Option, Some, None, refl, sym, ap, ◌∙◌, subst, arith}
-use Rattle.std.specs.Prelude.{IfSome}
+use Rattle.std.specs.Prelude.{IfSome, ⊤}
 use Rattle.std.specs.Io.KnownBytes.{append_known}
 use Rattle.tow_model.specs.declared.limits.TheConstants.{MAX_TEXT_LEN}
 use Rattle.tow_link.specs.Data.{Told, SourceData, SinkData, Rose, raised}
@@ -16,11 +16,12 @@ use Rattle.tow_conn.specs.Turns.{WritesWire, WritesPart}
 use Rattle.tow_server.specs.Ask.{Asked, AsksPart, is_walked}
 use Rattle.tow_server.specs.Check.{Checked, is_checked}
 use Rattle.tow_server.specs.Lines.{fault_line, line_for, ok_line, unbuilt_line}
+use Rattle.tow_server.specs.Returned.{untouched}
 use Rattle.tow_server.specs.Steps.{AnswersInput, LacksSite, LacksText, LoadsText, OpensSite, RefusesFault, RefusesText, ReportsSite}
 use Rattle.tow_server.specs.Texts.{Compiles, HandsBack, IsNamed, IsRead, Prints, Refuses, ReturnsText, TextCallFailed, UsesText}
 use Rattle.tow_server.specs.declared.status.Status.{Status}
 use Rattle.tow_server.specs.declared.status.Status.TheVariants.{Done, Words, Text, HostFault, NoMemory, StreamFault}
-use Rattle.tow_server.proofs.Completing.{completes}
+use Rattle.tow_server.proofs.Completing.{completes, misses, refuses_wrong}
 use Rattle.tow_server.proofs.Naming.{names_fault}
 
 -- WHICH STATUS IT IS
@@ -63,14 +64,16 @@ record HandedOver (source : SourceData) (old new : Held) : Type 0 where
   handed : new.handed ≡ raised old.handed
   returned : new.returned ≡ raised old.returned
   home : new.is_home ≡ old.is_home
+  rest : untouched new ≡ untouched old
 
 over : (source : SourceData) (old mid new : Held) → AsksText true old mid → new.text ≡ source → new.handed ≡ mid.handed → new.returned ≡ raised mid.returned → new.is_home ≡ mid.is_home
-    → HandedOver source old new
-over source old mid new asks text handed returned home = record {
+    → untouched new ≡ untouched mid → HandedOver source old new
+over source old mid new asks text handed returned home rest = record {
   text = text;
   handed = handed ∙ ap (λ (h : Held). h.handed) asks;
   returned = returned ∙ ap (λ (h : Held). raised h.returned) asks;
   home = home ∙ ap (λ (h : Held). h.is_home) asks;
+  rest = rest ∙ ap untouched asks;
 }
 
 returns_text : (name : List ℕ) (source : SourceData) (old new : Held) → HandedOver source old new → IsNamed old.texts name source → ReturnsText name old new
@@ -83,6 +86,15 @@ hands_back : (source : SourceData) (old new : Held) → HandedOver source old ne
 hands_back source old new handed home = record {
   home = handed.home ∙ home;
   back = λ same. handed.handed ∙ ap raised same ∙ sym handed.returned;
+  rest = handed.rest;
+}
+
+-- only the output changed
+pub explained_back : (old new : Held) → old.is_home ≡ true → new ≡ record old { output = new.output } → HandsBack old new
+explained_back old new home rest = record {
+  home = ap (λ (h : Held). h.is_home) rest ∙ home;
+  back = λ same. ap (λ (h : Held). h.handed) rest ∙ same ∙ sym (ap (λ (h : Held). h.returned) rest);
+  rest = ap untouched rest;
 }
 
 -- THE STREAMS
@@ -184,6 +196,7 @@ lacks_call name old new asks failed = record {
   streams = record { input = ap (λ (h : Held). h.input) asks; output = ap (λ (h : Held). h.output) asks };
   home = ap (λ (h : Held). h.is_home) asks;
   back = λ same. ap (λ (h : Held). h.handed) asks ∙ same ∙ sym (ap (λ (h : Held). h.returned) asks);
+  rest = ap untouched asks;
 }
 
 pub lacks_memory : (name : List ℕ) (old new : Held) → AsksText false old new → LacksText name NoMemory old new
@@ -193,13 +206,15 @@ lacks_memory name old new asks = record {
   streams = record { input = ap (λ (h : Held). h.input) asks; output = ap (λ (h : Held). h.output) asks };
   home = ap (λ (h : Held). h.is_home) asks;
   back = λ same. ap (λ (h : Held). h.handed) asks ∙ same ∙ sym (ap (λ (h : Held). h.returned) asks);
+  rest = ap untouched asks;
 }
 
 pub lacks_rest : (name : List ℕ) (source : SourceData) (status : Status) (old mid new : Held) → (status ≡ HostFault) ⊎ (status ≡ NoMemory)
     → (status ≡ HostFault → 0 < source.faults) → IsNamed old.texts name source → AsksText true old mid → new ≡ with_text source mid → LacksText name status old new
 lacks_rest name source status old mid new ends failed named asks returns =
     let handed : HandedOver source old new =
-    over source old mid new asks (ap (λ (h : Held). h.text) returns) (ap (λ (h : Held). h.handed) returns) (ap (λ (h : Held). h.returned) returns) (ap (λ (h : Held). h.is_home) returns) in
+    over source old mid new asks (ap (λ (h : Held). h.text) returns) (ap (λ (h : Held). h.handed) returns) (ap (λ (h : Held). h.returned) returns) (ap (λ (h : Held). h.is_home) returns)
+    (ap untouched returns) in
     record {
       ends = ends;
       host = λ is. inl (record {
@@ -212,6 +227,7 @@ lacks_rest name source status old mid new ends failed named asks returns =
       };
       home = handed.home;
       back = λ same. handed.handed ∙ ap raised same ∙ sym handed.returned;
+      rest = handed.rest;
     }
 
 -- THE SITE
@@ -229,7 +245,7 @@ lacks_text name status old new home lacks = record {
   refused = λ is_built is. absurd (not_text status lacks.ends is);
   streams = λ _. lacks.streams;
   input = lacks.streams.input;
-  back = record { home = lacks.home ∙ home; back = lacks.back };
+  back = record { home = lacks.home ∙ home; back = lacks.back; rest = lacks.rest };
 }
 
 pub lacks_tree : (name : List ℕ) (source : SourceData) (bytes : List ℕ) (fault : Fault) (status : Status) (old mid made new : Held) → old.is_home ≡ true → LoadsText name source bytes old mid
@@ -237,7 +253,8 @@ pub lacks_tree : (name : List ℕ) (source : SourceData) (bytes : List ℕ) (fau
 lacks_tree name source bytes fault status old mid made new home loads is makes refuses =
     let handed : HandedOver source old new =
     over source old mid new loads.rest (ap (λ (h : Held). h.text) refuses.rest) (ap (λ (h : Held). h.handed) refuses.rest ∙ ap (λ (h : Held). h.handed) makes)
-    (ap (λ (h : Held). h.returned) refuses.rest ∙ ap (λ (h : Held). raised h.returned) makes) (ap (λ (h : Held). h.is_home) refuses.rest ∙ ap (λ (h : Held). h.is_home) makes) in
+    (ap (λ (h : Held). h.returned) refuses.rest ∙ ap (λ (h : Held). raised h.returned) makes) (ap (λ (h : Held). h.is_home) refuses.rest ∙ ap (λ (h : Held). h.is_home) makes)
+    (ap untouched refuses.rest ∙ ap untouched makes) in
     let before : mid.larges ≡ old.larges = ap (λ (h : Held). h.larges) loads.rest in
     let now : made.larges ≡ new.larges = sym (ap (λ (h : Held). h.larges) refuses.rest) in
     let counted : IsFaultOfText bytes old.larges new.larges fault =
@@ -280,9 +297,9 @@ compiles : (is_built : SiteData → Bool) (name : List ℕ) (site : SiteData) (s
 compiles is_built name site source fact old mid new opens text built holds =
     subst (λ (s : SourceData). Compiles is_built s fact) (sym text) (compiles_told is_built source.told site fact (read_whole source.told opens.bytes site opens.read opens.is) built holds)
 
-uses_served : (is_built : SiteData → Bool) (name : List ℕ) (status : Status) (old new : Held) → Served status → ReturnsText name old new → new.larges ≡ old.larges
+uses_served : (is_built : SiteData → Bool) (name : List ℕ) (status : Status) (old new : Held) → Served status → ReturnsText name old new → Compiles is_built new.text (λ _. ⊤) → new.larges ≡ old.larges
     → (status ≡ StreamFault → Rose old.input.faults new.input.faults ⊎ Rose old.output.faults new.output.faults) → UsesText is_built name status old new
-uses_served is_built name status old new ends returns larges stream =
+uses_served is_built name status old new ends returns right larges stream =
     let no_text : status ≢ Text = served_not status Text ends (λ is. cc) (λ is. cc) (λ is. cc) in
     let no_host : status ≢ HostFault = served_not status HostFault ends (λ is. cc) (λ is. cc) (λ is. cc) in
     record {
@@ -292,6 +309,8 @@ uses_served is_built name status old new ends returns larges stream =
       quiet = λ is. absurd (no_host is);
       larges = λ _. larges;
       complete = completes is_built name status old new (inl ends) (λ _. returns) (λ is. absurd (no_text is)) (λ is. absurd (no_host is)) stream;
+      wrong = refuses_wrong is_built name status old new (inl ends) (λ _. returns) (λ _. right) (λ is. absurd (no_host is));
+      missing = misses name status old new (inl ends) (λ _. returns);
       words = λ why. served_not status (Words why) ends (λ is. cc) (λ is. cc) (λ is. cc);
     }
 
@@ -306,10 +325,15 @@ lacking_returns name status old new lacks (inl (inl is)) = absurd (lacking_not s
 lacking_returns name status old new lacks (inl (inr is)) = absurd (lacking_not status StreamFault lacks.ends (λ is. cc) (λ is. cc) (λ is. cc) is)
 lacking_returns name status old new lacks (inr is) = lacks.text is
 
+neither : (status : Status) → status ≢ Done → status ≢ StreamFault → (status ≡ Done) ⊎ (status ≡ StreamFault) → ⊥
+neither status no_done no_stream (inl is) = no_done is
+neither status no_done no_stream (inr is) = no_stream is
+
 uses_lacking : (is_built : SiteData → Bool) (name : List ℕ) (status : Status) (old new : Held) → LacksSite name status old new → UsesText is_built name status old new
 uses_lacking is_built name status old new lacks =
     let no_stream : status ≢ StreamFault = lacking_not status StreamFault lacks.ends (λ is. cc) (λ is. cc) (λ is. cc) in
     let no_done : status ≢ Done = lacking_not status Done lacks.ends (λ is. cc) (λ is. cc) (λ is. cc) in
+    let no_right : (status ≡ Done) ⊎ (status ≡ StreamFault) → Compiles is_built new.text (λ _. ⊤) = λ is. absurd (neither status no_done no_stream is) in
     record {
       text = lacking_returns name status old new lacks;
       refused = lacks.refused is_built;
@@ -317,6 +341,8 @@ uses_lacking is_built name status old new lacks =
       quiet = λ is. lacks.streams (λ text. let wrong : HostFault ≡ Text = sym is ∙ text in cc);
       larges = λ is. absurd (no_done is);
       complete = completes is_built name status old new (lacking_complete status lacks.ends) lacks.text (lacks.refused is_built) lacks.host (λ is. absurd (no_stream is));
+      wrong = refuses_wrong is_built name status old new (lacking_complete status lacks.ends) (lacking_returns name status old new lacks) no_right lacks.host;
+      missing = misses name status old new (lacking_complete status lacks.ends) (lacking_returns name status old new lacks);
       words = λ why. lacking_not status (Words why) lacks.ends (λ is. cc) (λ is. cc) (λ is. cc);
     }
 
@@ -327,12 +353,14 @@ pub checks_served : (name : List ℕ) (site : SiteData) (source : SourceData) (s
 checks_served name site source status old mid new opens reports =
     let line = ok_line (length site.tree) in
     let handed : HandedOver source old new =
-    over source old mid new opens.rest (ap (λ (h : Held). h.text) reports.rest) (ap (λ (h : Held). h.handed) reports.rest) (ap (λ (h : Held). h.returned) reports.rest) (ap (λ (h : Held). h.is_home) reports.rest) in
+    over source old mid new opens.rest (ap (λ (h : Held). h.text) reports.rest) (ap (λ (h : Held). h.handed) reports.rest) (ap (λ (h : Held). h.returned) reports.rest) (ap (λ (h : Held). h.is_home) reports.rest)
+    (ap untouched reports.rest) in
     let input : new.input ≡ old.input = ap (λ (h : Held). h.input) reports.rest ∙ ap (λ (h : Held). h.input) opens.rest in
     let stream : status ≡ StreamFault → Rose old.output.faults new.output.faults =
     λ is. subst (λ (h : Held). Rose h.output.faults new.output.faults) opens.rest (reports.stream is) in
     record {
-      text = uses_served is_checked name status old new reports.ends (returns_text name source old new handed opens.named) (ap (λ (h : Held). h.larges) reports.rest ∙ ap (λ (h : Held). h.larges) opens.rest) (λ is. inr (stream is));
+      text = uses_served is_checked name status old new reports.ends (returns_text name source old new handed opens.named)
+          (compiles is_checked name site source (λ _. ⊤) old mid new opens handed.text refl tt) (ap (λ (h : Held). h.larges) reports.rest ∙ ap (λ (h : Held). h.larges) opens.rest) (λ is. inr (stream is));
       done = λ is. compiles is_checked name site source (λ (s : SiteData). new.output.written ≡ append_known old.output.written (ok_line (length s.tree))) old mid new opens handed.text refl
           (subst (λ (h : Held). new.output.written ≡ append_known h.output.written line) opens.rest (reports.done is));
       part = λ is. compiles is_checked name site source (λ (s : SiteData). AppendsPart old.output.written new.output.written (ok_line (length s.tree))) old mid new opens handed.text refl
@@ -346,7 +374,8 @@ pub checks_back : (name : List ℕ) (site : SiteData) (source : SourceData) (sta
     → ReportsSite (length site.tree) source status mid new → HandsBack old new
 checks_back name site source status old mid new home opens reports =
     hands_back source old new
-    (over source old mid new opens.rest (ap (λ (h : Held). h.text) reports.rest) (ap (λ (h : Held). h.handed) reports.rest) (ap (λ (h : Held). h.returned) reports.rest) (ap (λ (h : Held). h.is_home) reports.rest)) home
+    (over source old mid new opens.rest (ap (λ (h : Held). h.text) reports.rest) (ap (λ (h : Held). h.handed) reports.rest) (ap (λ (h : Held). h.returned) reports.rest) (ap (λ (h : Held). h.is_home) reports.rest)
+    (ap untouched reports.rest)) home
 
 pub checks_nothing : (name : List ℕ) (status : Status) (old new : Held) → LacksSite name status old new → Checked name status old new
 checks_nothing name status old new lacks =
@@ -367,7 +396,8 @@ pub asks_served : (name : List ℕ) (moment : Option ℕ) (site : SiteData) (sou
 asks_served name moment site source status old mid new opens built answers =
     let table = clock_table old.moments moment in
     let handed : HandedOver source old new =
-    over source old mid new opens.rest (ap (λ (h : Held). h.text) answers.rest) (ap (λ (h : Held). h.handed) answers.rest) (ap (λ (h : Held). h.returned) answers.rest) (ap (λ (h : Held). h.is_home) answers.rest) in
+    over source old mid new opens.rest (ap (λ (h : Held). h.text) answers.rest) (ap (λ (h : Held). h.handed) answers.rest) (ap (λ (h : Held). h.returned) answers.rest) (ap (λ (h : Held). h.is_home) answers.rest)
+    (ap untouched answers.rest) in
     let returns : ReturnsText name old new = returns_text name source old new handed opens.named in
     let stream : status ≡ StreamFault → Rose old.input.faults new.input.faults ⊎ Rose old.output.faults new.output.faults =
     λ is. subst (λ (h : Held). Rose h.input.faults new.input.faults ⊎ Rose h.output.faults new.output.faults) opens.rest (answers.stream is) in
@@ -375,7 +405,7 @@ asks_served name moment site source status old mid new opens built answers =
     compiles is_walked name site source (λ (s : SiteData). WritesPart s.tree table old.input.told old.output.written new.output.written) old mid new opens handed.text built
     (subst (λ (h : Held). WritesPart site.tree (clock_table h.moments moment) h.input.told h.output.written new.output.written) opens.rest answers.part) in
     record {
-      text = uses_served is_walked name status old new answers.ends returns (ap (λ (h : Held). h.larges) answers.rest ∙ ap (λ (h : Held). h.larges) opens.rest) stream;
+      text = uses_served is_walked name status old new answers.ends returns (compiles is_walked name site source (λ _. ⊤) old mid new opens handed.text built tt) (ap (λ (h : Held). h.larges) answers.rest ∙ ap (λ (h : Held). h.larges) opens.rest) stream;
       done = λ is. compiles is_walked name site source (λ (s : SiteData). WritesWire s.tree table old.input.told old.output.written new.output.written) old mid new opens handed.text built
           (subst (λ (h : Held). WritesWire site.tree (clock_table h.moments moment) h.input.told h.output.written new.output.written) opens.rest (answers.done is));
       part = λ _. part;
@@ -387,13 +417,15 @@ pub asks_back : (name : List ℕ) (moment : Option ℕ) (site : SiteData) (sourc
     → AnswersInput site.tree (clock_table mid.moments moment) source status mid new → HandsBack old new
 asks_back name moment site source status old mid new home opens answers =
     hands_back source old new
-    (over source old mid new opens.rest (ap (λ (h : Held). h.text) answers.rest) (ap (λ (h : Held). h.handed) answers.rest) (ap (λ (h : Held). h.returned) answers.rest) (ap (λ (h : Held). h.is_home) answers.rest)) home
+    (over source old mid new opens.rest (ap (λ (h : Held). h.text) answers.rest) (ap (λ (h : Held). h.handed) answers.rest) (ap (λ (h : Held). h.returned) answers.rest) (ap (λ (h : Held). h.is_home) answers.rest)
+    (ap untouched answers.rest)) home
 
 pub asks_unbuilt : (name : List ℕ) (moment : Option ℕ) (site : SiteData) (source : SourceData) (old mid new : Held) → OpensSite name site source old mid → is_walked site ≡ false
     → RefusesText unbuilt_line source mid new → Asked name moment Text old new
 asks_unbuilt name moment site source old mid new opens unbuilt refuses =
     let handed : HandedOver source old new =
-    over source old mid new opens.rest (ap (λ (h : Held). h.text) refuses.rest) (ap (λ (h : Held). h.handed) refuses.rest) (ap (λ (h : Held). h.returned) refuses.rest) (ap (λ (h : Held). h.is_home) refuses.rest) in
+    over source old mid new opens.rest (ap (λ (h : Held). h.text) refuses.rest) (ap (λ (h : Held). h.handed) refuses.rest) (ap (λ (h : Held). h.returned) refuses.rest) (ap (λ (h : Held). h.is_home) refuses.rest)
+    (ap untouched refuses.rest) in
     let returns : ReturnsText name old new = returns_text name source old new handed opens.named in
     let refused : Refuses is_walked old new = record {
       bytes = opens.bytes;
@@ -411,6 +443,8 @@ asks_unbuilt name moment site source old mid new opens unbuilt refuses =
         quiet = λ (is : Text ≡ HostFault). cc;
         larges = λ (is : Text ≡ Done). cc;
         complete = completes is_walked name Text old new (inr (inr refl)) (λ _. returns) (λ _. refused) (λ (is : Text ≡ HostFault). cc) (λ (is : Text ≡ StreamFault). cc);
+        wrong = λ _ _. inl refl;
+        missing = misses name Text old new (inr (inr refl)) (λ _. returns);
         words = λ why (is : Text ≡ Words why). cc;
       };
       done = λ (is : Text ≡ Done). cc;
@@ -422,7 +456,8 @@ asks_unbuilt name moment site source old mid new opens unbuilt refuses =
 pub unbuilt_back : (name : List ℕ) (site : SiteData) (source : SourceData) (old mid new : Held) → old.is_home ≡ true → OpensSite name site source old mid → RefusesText unbuilt_line source mid new → HandsBack old new
 unbuilt_back name site source old mid new home opens refuses =
     hands_back source old new
-    (over source old mid new opens.rest (ap (λ (h : Held). h.text) refuses.rest) (ap (λ (h : Held). h.handed) refuses.rest) (ap (λ (h : Held). h.returned) refuses.rest) (ap (λ (h : Held). h.is_home) refuses.rest)) home
+    (over source old mid new opens.rest (ap (λ (h : Held). h.text) refuses.rest) (ap (λ (h : Held). h.handed) refuses.rest) (ap (λ (h : Held). h.returned) refuses.rest) (ap (λ (h : Held). h.is_home) refuses.rest)
+    (ap untouched refuses.rest)) home
 
 pub asks_nothing : (name : List ℕ) (moment : Option ℕ) (status : Status) (old new : Held) → LacksSite name status old new → Asked name moment status old new
 asks_nothing name moment status old new lacks =

@@ -23,6 +23,8 @@ uses_nothing is_built name old = record {
   quiet = λ (wrong : NoMemory ≡ HostFault). cc;
   larges = λ (wrong : NoMemory ≡ Done). cc;
   complete = λ right fine. inr refl;
+  wrong = λ wrong comes. inr refl;
+  missing = λ missing. inr refl;
   words = λ why (wrong : NoMemory ≡ Words why). cc;
 }
 

@@ -10,6 +10,7 @@ use Rattle.tow_site.specs.declared.fault.Fault.{Fault}
 use Rattle.tow_site.specs.declared.fault.Fault.TheVariants as faults
 use Rattle.tow_conn.specs.Turns.{Moments, WritesWire, WritesPart}
 use Rattle.tow_server.specs.Lines.{line_for, ok_line}
+use Rattle.tow_server.specs.Returned.{untouched}
 use Rattle.tow_server.specs.Texts.{HandsBack, IsNamed, IsRead, LeavesStreams, Prints, Refuses, ReturnsText, TextCallFailed, TextSourceFailed}
 use Rattle.tow_server.specs.declared.status.Status.{Status}
 use Rattle.tow_server.specs.declared.status.Status.TheVariants.{Done, Text, HostFault, NoMemory, StreamFault}
@@ -27,6 +28,7 @@ pub record LacksText (name : List ℕ) (status : Status) (old new : Held) : Type
   pub streams : LeavesStreams old new
   pub home : new.is_home ≡ old.is_home
   pub back : old.handed ≡ old.returned → new.handed ≡ new.returned
+  pub rest : untouched new ≡ untouched old
 
 -- a text's source was handed back, and this line was printed
 pub record RefusesText (line : List ℕ) (source : SourceData) (old new : Held) : Type 0 where

@@ -10,6 +10,7 @@ use Rattle.tow_host.specs.Texts.{text_named}
 use Rattle.tow_site.specs.Compiled.{SiteData, IsSiteOf}
 use Rattle.tow_words.specs.declared.command.Why.{Why}
 use Rattle.tow_server.specs.Lines.{IsRefusal}
+use Rattle.tow_server.specs.Returned.{untouched}
 use Rattle.tow_server.specs.declared.status.Status.{Status}
 use Rattle.tow_server.specs.declared.status.Status.TheVariants.{Done, Words, Text, HostFault, NoMemory, StreamFault}
 
@@ -69,6 +70,21 @@ abbrev pub IsRightText : (SiteData → Bool) → Texts → List ℕ → Type 0
 IsRightText is_built None name = ⊥
 IsRightText is_built (Some texts) name = IsSomeAnd (text_named texts name) (λ bytes. (site : SiteData) × IsSiteOf bytes site × (is_built site ≡ true))
 
+-- the host tells its texts, and the one under this name is not that of a site that is built
+abbrev pub IsWrongText : (SiteData → Bool) → Texts → List ℕ → Type 0
+IsWrongText is_built None name = ⊥
+IsWrongText is_built (Some texts) name = IsSomeAnd (text_named texts name) (λ bytes. (site : SiteData) → IsSiteOf bytes site → is_built site ≡ true → ⊥)
+
+-- the host tells its texts, and none is under this name
+abbrev pub IsMissingText : Texts → List ℕ → Type 0
+IsMissingText None name = ⊥
+IsMissingText (Some texts) name = text_named texts name ≡ None
+
+-- the text could be had and read: neither its source failed nor the host's call with this name
+pub record TextComes (name : List ℕ) (old new : Held) : Type 0 where
+  pub source : ¬ (TextSourceFailed name old new)
+  pub call : ¬ (TextCallFailed name old new)
+
 -- nothing failed: not the text's source, not the host's call with this name, not the input, not the output, and the host
 -- refused no pattern as too large
 pub record NothingFailed (name : List ℕ) (old new : Held) : Type 0 where
@@ -78,10 +94,12 @@ pub record NothingFailed (name : List ℕ) (old new : Held) : Type 0 where
   pub output : ¬ (Rose old.output.faults new.output.faults)
   pub patterns : (pattern : List ℕ) → ¬ (Rose (old.larges pattern) (new.larges pattern))
 
--- The host has its streams, and as many text sources were handed back as were handed out, if that was so before.
+-- The host has its streams, and as many text sources were handed back as were handed out, if that was so before. No log was
+-- asked for and no log or account handed back.
 pub record HandsBack (old new : Held) : Type 0 where
   pub home : new.is_home ≡ true
   pub back : old.handed ≡ old.returned → new.handed ≡ new.returned
+  pub rest : untouched new ≡ untouched old
 
 -- What each command promises of the text of this name, where it serves the sites that are built in this sense. Read it by
 -- the status: what was read and printed, and what caused it.
@@ -97,4 +115,8 @@ pub record UsesText (is_built : SiteData → Bool) (name : List ℕ) (status : S
   pub larges : status ≡ Done → new.larges ≡ old.larges
   -- if the text is right and nothing failed, all was done, or memory was short
   pub complete : IsRightText is_built old.texts name → NothingFailed name old new → (status ≡ Done) ⊎ (status ≡ NoMemory)
+  -- if the text could be had and read, and is not right, it is refused, or memory was short
+  pub wrong : IsWrongText is_built old.texts name → TextComes name old new → (status ≡ Text) ⊎ (status ≡ NoMemory)
+  -- if there is none of this name, it could not be had, or memory was short
+  pub missing : IsMissingText old.texts name → (status ≡ HostFault) ⊎ (status ≡ NoMemory)
   pub words : (why : Why) → status ≢ Words why

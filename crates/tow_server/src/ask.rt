@@ -11,11 +11,12 @@ ghost use Rattle.tow_server.specs.Texts.{HandsBack};
 
 use crate::lines::UNBUILT;
 use crate::refusal::refuse_text;
+use crate::returning::give_back;
 use crate::site::open_site;
 use crate::status::Status;
 use std::alloc::Global;
 use tow_conn::ask_whole;
-use tow_host::{Host, Kept};
+use tow_host::Host;
 use tow_model::End;
 use tow_site::{Site, is_built};
 
@@ -38,10 +39,7 @@ fn answer_input<H: Host>(
     let mut clock = host.clock(moment);
     let mut link = host.lend();
     let end = ask_whole(alloc, site, &mut link, &mut clock);
-    host.take_back(Kept {
-        text: Some(source),
-        streams: Some(link),
-    });
+    give_back(alloc, host, Some(source), Some(link));
     match end {
         End::Done => Status::Done,
         End::LinkFault => Status::StreamFault,
@@ -68,7 +66,7 @@ pub fn run_ask<H: Host>(
         Ok(opened) => {
             // for now: a site that uses what is not built yet is refused, though its text is right.
             if !is_built(opened.site.tree()) {
-                refuse_text(host, opened.source, UNBUILT);
+                refuse_text(alloc, host, opened.source, UNBUILT);
                 return Status::Text;
             }
             answer_input(alloc, host, opened.source, &opened.site, moment)

@@ -20,11 +20,11 @@ fn report_site<H: Host>(alloc: Global, host: &mut H, source: H::Text, statements
     ensures { ReportsSite statements (H.Text.shows source) result (H.held host.old)
         (H.held host.new) }
 {
-    return_text(host, source);
+    return_text(alloc, host, source);
     let Ok(line) = ok_line(alloc, statements) else {
         return Status::NoMemory;
     };
-    if print_line(host, line.as_slice()) {
+    if print_line(alloc, host, line.as_slice()) {
         Status::Done
     } else {
         Status::StreamFault

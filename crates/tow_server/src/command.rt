@@ -42,19 +42,20 @@ pub fn run<H: Host>(alloc: Global, words: &Vec<String>, host: &mut H) -> Status
         Words::Run(Command::Check { text }) => run_check(alloc, host, text),
         Words::Run(Command::Ask { dir, text, moment }) => run_ask(alloc, host, dir, text, moment),
         // for now: these commands are not built, though their words are read.
-        Words::Run(Command::Drill { .. }) => explain(host, Why::NoCommand),
-        Words::Run(Command::Serve { .. }) => explain(host, Why::NoCommand),
-        Words::Usage(why) => explain(host, why),
+        Words::Run(Command::Drill { .. }) => explain(alloc, host, Why::NoCommand),
+        Words::Run(Command::Serve { .. }) => explain(alloc, host, Why::NoCommand),
+        Words::Usage(why) => explain(alloc, host, why),
         Words::NoMemory => Status::NoMemory,
     }
 }
 
 /// Prints which words there are.
-fn explain<H: Host>(host: &mut H, why: Why) -> Status
+#[tactic(auto, using(crate::proofs::Joining::explained_back))]
+fn explain<H: Host>(alloc: Global, host: &mut H, why: Why) -> Status
     requires { (H.held host.old).is_home ≡ true }
     ensures explained { Explained why result (H.held host.old) (H.held host.new) }
     ensures back { HandsBack (H.held host.old) (H.held host.new) }
 {
-    print_line(host, USAGE);
+    print_line(alloc, host, USAGE);
     Status::Words(why)
 }

@@ -1,4 +1,5 @@
-//! The program: its words are read, and a command is run over the machine. `run` carries the promise of every command.
+//! The program: its words are read, and a command is run over the machine. `run` carries the promise of every command, and
+//! `Status::exit_code` that of the exit status. What a person is told beside that stands on the standard error.
 #![tactic(auto)]
 
 mod ask;
@@ -7,8 +8,10 @@ mod command;
 mod lines;
 mod output;
 mod refusal;
+mod returning;
 mod site;
 mod status;
+mod telling;
 #[cfg(test)]
 mod tests;
 mod text;
@@ -19,6 +22,7 @@ use std::alloc::{AllocError, Global};
 use std::env;
 use std::process::ExitCode;
 use std::rt::HostRuntime;
+use telling::{tell, tell_want};
 use tow_real::SystemHost;
 
 /// The words after the program's name.
@@ -38,9 +42,14 @@ fn main(rt: HostRuntime) -> ExitCode {
     let status = match words_of_program(rt, alloc) {
         Ok(words) => {
             let mut host = SystemHost::new(rt);
-            run(alloc, &words, &mut host)
+            let status = run(alloc, &words, &mut host);
+            tell(rt, &words, &host, status);
+            status
         }
-        Err(_) => Status::NoMemory,
+        Err(_) => {
+            tell_want(rt);
+            Status::NoMemory
+        }
     };
-    ExitCode::from(status.code())
+    status.exit_code()
 }

@@ -6,12 +6,14 @@ ghost use Rattle.tow_link.specs.Data.{Rose};
 ghost use Rattle.tow_link.specs.Runs.{AppendsPart};
 ghost use Rattle.tow_server.specs.Texts.{Prints};
 
-use tow_host::{Host, Kept};
+use crate::returning::give_back;
+use std::alloc::Global;
+use tow_host::Host;
 use tow_link::write_all;
 
 /// Prints a line, and says whether it was printed whole; if the output fails, a front of it is printed.
 #[tactic(auto, using(crate::proofs::Joining::printed))]
-pub fn print_line<H: Host>(host: &mut H, line: &[u8]) -> bool
+pub fn print_line<H: Host>(alloc: Global, host: &mut H, line: &[u8]) -> bool
     requires { (H.held host.old).is_home ≡ true }
     ensures prints { Prints (H.held host.old).output (H.held host.new).output line.now }
     ensures whole { result ≡ true
@@ -26,9 +28,6 @@ pub fn print_line<H: Host>(host: &mut H, line: &[u8]) -> bool
 {
     let mut link = host.lend();
     let printed = write_all(&mut link.output, line).is_ok();
-    host.take_back(Kept {
-        text: None,
-        streams: Some(link),
-    });
+    give_back(alloc, host, None, Some(link));
     printed
 }

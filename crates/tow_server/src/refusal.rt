@@ -13,12 +13,12 @@ use tow_site::Fault;
 
 /// Refuses a text with this line.
 #[tactic(auto, using(crate::proofs::Joining::refuses_text))]
-pub fn refuse_text<H: Host>(host: &mut H, source: H::Text, line: &[u8])
+pub fn refuse_text<H: Host>(alloc: Global, host: &mut H, source: H::Text, line: &[u8])
     requires { (H.held host.old).is_home ≡ true }
     ensures { RefusesText line.now (H.Text.shows source) (H.held host.old) (H.held host.new) }
 {
-    return_text(host, source);
-    print_line(host, line);
+    return_text(alloc, host, source);
+    print_line(alloc, host, line);
 }
 
 /// Refuses a text for its fault. Takes memory for the line; without it nothing is printed.
@@ -28,16 +28,16 @@ pub fn refuse_fault<H: Host>(alloc: Global, host: &mut H, source: H::Text, fault
     ensures { RefusesFault fault (H.Text.shows source) result (H.held host.old) (H.held host.new) }
 {
     let Fault::Text { kind, line, column } = fault else {
-        return_text(host, source);
+        return_text(alloc, host, source);
         return Status::NoMemory;
     };
     match fault_line(alloc, kind, line, column) {
         Ok(line) => {
-            refuse_text(host, source, line.as_slice());
+            refuse_text(alloc, host, source, line.as_slice());
             Status::Text
         }
         Err(_memory) => {
-            return_text(host, source);
+            return_text(alloc, host, source);
             Status::NoMemory
         }
     }

@@ -1,10 +1,12 @@
 //! How a command ends, and the exit status of the program.
 
 ghost use Rattle.std.specs.Prelude.{◌≡◌};
+ghost use Rattle.std.specs.Process.{exit_status};
 ghost use Rattle.tow_server.specs.Codes.{code_of};
 
 use std::fmt;
 use std::fmt::{Display, Formatter};
+use std::process::ExitCode;
 use tow_words::Why;
 
 /// How a command ended.
@@ -36,6 +38,15 @@ impl Status {
             Status::NoMemory => 71,
             Status::StreamFault => 74,
         }
+    }
+}
+
+impl Status {
+    /// The same, as the program ends with it.
+    pub fn exit_code(&self) -> ExitCode
+        ensures { exit_status result ≡ code_of self.now }
+    {
+        ExitCode::from(self.code())
     }
 }
 

@@ -4,9 +4,10 @@ ghost use Rattle.std.specs.Prelude.{◌≡◌, IfOk, IfErr};
 ghost use Rattle.tow_host.specs.Held.{with_text};
 ghost use Rattle.tow_server.specs.Steps.{LacksText, LoadsText};
 
+use crate::returning::give_back;
 use crate::status::Status;
 use std::alloc::Global;
-use tow_host::{Host, HostFault, Kept};
+use tow_host::{Host, HostFault};
 use tow_link::{Whole, read_whole};
 use tow_model::limits::MAX_TEXT_LEN;
 
@@ -18,13 +19,10 @@ pub struct Loaded<T: Drop> {
 }
 
 /// Hands the source of a text back.
-pub fn return_text<H: Host>(host: &mut H, source: H::Text)
+pub fn return_text<H: Host>(alloc: Global, host: &mut H, source: H::Text)
     ensures { H.held host.new ≡ with_text (H.Text.shows source) (H.held host.old) }
 {
-    host.take_back(Kept {
-        text: Some(source),
-        streams: None,
-    });
+    give_back(alloc, host, Some(source), None);
 }
 
 /// Reads the host's text of this name, up to one byte more than a text may have. If that is not to be had, its source was
@@ -49,11 +47,11 @@ pub fn load_text<H: Host>(
     match read_whole(alloc, &mut source, MAX_TEXT_LEN) {
         Whole::Bytes(bytes) | Whole::TooLong(bytes) => Ok(Loaded { source, bytes }),
         Whole::Failed => {
-            return_text(host, source);
+            return_text(alloc, host, source);
             Err(Status::HostFault)
         }
         Whole::NoMemory => {
-            return_text(host, source);
+            return_text(alloc, host, source);
             Err(Status::NoMemory)
         }
     }

@@ -1,9 +1,9 @@
 pub mod Building
 pub mod Walking
+pub mod Formats
 pub mod Leading
 pub mod Deciding
 pub mod Naming
 pub mod Numbering
 pub mod Faulting
 pub mod Sites
-pub mod Searching

@@ -7,6 +7,8 @@ use Rattle.tow_language.specs.Fit.{Counts, Fitted, fit}
 use Rattle.tow_language.specs.Fault.{IsFault}
 use Rattle.tow_language.proofs.Kept.{is_one_derivation, is_no_tree_at_fault}
 use Rattle.tow_pattern.specs.Patterns.{IsGoodPattern}
+use Rattle.tow_program.specs.declared.instruction.Instruction.{Instruction}
+use Rattle.tow_program.specs.Programs.{program_of}
 use Rattle.tow_link.specs.Data.{Rose}
 use Rattle.tow_site.specs.Compiled.{SiteData, HasTree, IsSiteOf, IsFaultAtPattern, IsRefused, pattern_texts}
 
@@ -23,8 +25,13 @@ one_tree_and_places text a b xs ys (raw, m, reads, fits, places) (raw2, n, reads
     let counts = ap (λ (c : Counts). c.patterns) same.1 in
     (same.0, places ∙ counts ∙ sym places2)
 
-one_tree : (text : List ℕ) (a b : List Statement) (xs ys : List ℕ) → HasTree text a xs → HasTree text b ys → a ≡ b
+pub one_tree : (text : List ℕ) (a b : List Statement) (xs ys : List ℕ) → HasTree text a xs → HasTree text b ys → a ≡ b
 one_tree text a b xs ys left right = (one_tree_and_places text a b xs ys left right).0
+
+-- a program of some tree of the text is that of its tree
+pub one_program : (text : List ℕ) (program : List Instruction) (tree : List Statement) (places : List ℕ) → HasTree text tree places →
+    ((other : List Statement) × (at : List ℕ) × HasTree text other at × (program ≡ program_of other)) → program ≡ program_of tree
+one_program text program tree places has (other, at, has_other, is) = is ∙ ap program_of (one_tree text other tree at places has_other has)
 
 pub one_site : (text : List ℕ) (a b : SiteData) → IsSiteOf text a → IsSiteOf text b → a ≡ b
 one_site text a b (left, good) (right, good2) =

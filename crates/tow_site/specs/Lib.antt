@@ -1,5 +1,4 @@
 pub mod Built
 pub mod Compiled
 pub mod Decided
-pub mod Formats
 pub mod Walking

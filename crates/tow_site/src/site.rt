@@ -1,19 +1,22 @@
 //! What a handlers text is once it compiled.
 
 ghost use Rattle.std.specs.Prelude.{◌≡◌, ◌<◌, ◌↔◌, IsTrue, length, IfOk};
-ghost use Rattle.tow_semantics.specs.Listeners.{at_number, formats_of};
+ghost use Rattle.tow_semantics.specs.Listeners.{at_number, bounds_of, formats_of};
 ghost use Rattle.tow_pred.specs.Numbering.{IsNumbered};
+ghost use Rattle.tow_program.specs.Programs.{program_of};
 ghost use Rattle.tow_site.specs.Compiled.{pattern_texts};
 
-use crate::formats::format_at;
 use std::marker::Model;
-use tow_model::{List, NoMemory, Template, Tree};
+use tow_model::{Bound, List, NoMemory, Template, Tree};
 use tow_pred::Tests;
+use tow_program::Program;
 
-/// A handlers text that compiled. Contracts see its tree and the offsets of its patterns' values.
+/// A handlers text that compiled. Contracts see its tree and the offsets of its patterns' values. Requests are walked by
+/// its program.
 #[derive(Drop)]
 pub struct Site {
     tree: Tree,
+    program: Program,
     patterns: List<usize>,
     tests: Tests,
     statements: u32,
@@ -22,6 +25,7 @@ pub struct Site {
 impl Model for Site {
     ghost use Rattle.std.specs.Prelude.{length, ◌≡◌};
     ghost use Rattle.tow_pred.specs.Numbering.{IsNumbered};
+    ghost use Rattle.tow_program.specs.Programs.{program_of};
     ghost use Rattle.tow_site.specs.Compiled.{SiteData, site_code, pattern_texts};
 
     ghost Value = { SiteData };
@@ -31,12 +35,19 @@ impl Model for Site {
     ghost view = { λ s. record { tree = s.tree; patterns = s.patterns } };
 
     ghost invariant = { λ s. (s.statements ≡ length s.tree) × (s.tests ≡ pattern_texts s.tree)
-        × IsNumbered s.tree };
+        × IsNumbered s.tree × (s.program ≡ program_of s.tree) };
 }
 
 impl Site {
-    /// The site of a tree whose patterns were built; none if its statements are too many to be numbered.
-    pub fn new(tree: Tree, patterns: List<usize>, tests: Tests) -> Result<Site, NoMemory>
+    /// The site of a tree with its program, whose patterns were built; none if its statements are too many to be
+    /// numbered.
+    pub fn new(
+        tree: Tree,
+        program: Program,
+        patterns: List<usize>,
+        tests: Tests,
+    ) -> Result<Site, NoMemory>
+        requires program { program ≡ program_of tree }
         requires tests { tests ≡ pattern_texts tree }
         requires numbered { IsNumbered tree }
         ensures tree { IfOk result (λ s. s.tree ≡ tree) }
@@ -47,6 +58,7 @@ impl Site {
         };
         Ok(Site {
             tree,
+            program,
             patterns,
             tests,
             statements,
@@ -75,14 +87,26 @@ impl Site {
         &self.tests
     }
 
+    /// The program of the text. Takes no memory.
+    pub fn program(&self) -> &Program
+        ensures program { result.now ≡ program_of self.now.tree }
+        ensures numbered { IsNumbered self.now.tree }
+    {
+        &self.program
+    }
+
+    /// The limits of the text, by their numbers. Takes no memory.
+    pub fn limits(&self) -> &List<Bound>
+        ensures { result.now ≡ bounds_of self.now.tree }
+    {
+        self.program.limits()
+    }
+
     /// Whether the text has an access log of this number, from 0. Takes no memory.
     pub fn has_log(&self, number: u32) -> bool
         ensures { IsTrue result ↔ (number < length (formats_of self.now.tree)) }
     {
-        match format_at(self.tree.as_slice(), number) {
-            Ok(_) => true,
-            Err(_) => false,
-        }
+        self.program.format(number as usize).is_some()
     }
 
     /// The format of the access log of this number, in the order of the text from 0, which the text has. Takes no memory.
@@ -90,9 +114,9 @@ impl Site {
         requires { number < length (formats_of self.now.tree) }
         ensures { result.now ≡ at_number number (formats_of self.now.tree) }
     {
-        match format_at(self.tree.as_slice(), number) {
-            Ok(format) => format,
-            Err(_) => unreachable!(),
+        match self.program.format(number as usize) {
+            Some(format) => format,
+            None => unreachable!(),
         }
     }
 

@@ -1,6 +1,8 @@
 //! What texts with a fault are told.
 
+use super::faults::FAULTS;
 use super::parameters::PARAMETERS;
+use super::seconds::SECONDS;
 use super::spellings::SPELLINGS;
 use super::tokens::TOKENS;
 use crate::explain;
@@ -42,6 +44,50 @@ fn expect_all(rt: &impl Abort, alloc: Global, rows: &[Row]) -> Result<(), Fail> 
     Ok(())
 }
 
+/// Whether the words stand in what is told.
+fn expect_words(rt: &impl Abort, alloc: Global, row: &Row) -> Result<(), Fail> {
+    let (text, kind, line, column, words) = *row;
+    let told = told_at(alloc, text, kind, line, column)?;
+    assert!(rt; told.as_str().contains(words), "{words}");
+    Ok(())
+}
+
+fn expect_all_words(rt: &impl Abort, alloc: Global, rows: &[Row]) -> Result<(), Fail> {
+    for row in rows {
+        expect_words(rt, alloc, row)?;
+    }
+    Ok(())
+}
+
+#[test]
+fn faults_of_each_kind_are_told(rt: HostRuntime) -> Result<(), Fail> {
+    expect_all_words(&rt, rt.alloc(), FAULTS)
+}
+
+/// Whether a text of one byte so many times is told to be too long at this place.
+fn expect_too_long(
+    rt: &impl Abort,
+    alloc: Global,
+    byte: u8,
+    line: usize,
+    column: usize,
+) -> Result<(), Fail> {
+    let text = vec![in alloc; byte; 65_537]?;
+    let told = told_at(alloc, text.as_slice(), Kind::TooLong, line, column)?;
+    assert!(rt;
+        told.as_str()
+            .contains("the text goes on past its limit of 65536 bytes")
+    );
+    Ok(())
+}
+
+#[test]
+fn texts_that_are_too_long_are_told(rt: HostRuntime) -> Result<(), Fail> {
+    expect_too_long(&rt, rt.alloc(), b'(', 1, 65_537)?;
+    expect_too_long(&rt, rt.alloc(), b'\n', 65_537, 1)?;
+    expect_too_long(&rt, rt.alloc(), 0xff, 1, 65_537)
+}
+
 #[test]
 fn misplaced_tokens_are_told(rt: HostRuntime) -> Result<(), Fail> {
     expect_all(&rt, rt.alloc(), TOKENS)
@@ -50,6 +96,11 @@ fn misplaced_tokens_are_told(rt: HostRuntime) -> Result<(), Fail> {
 #[test]
 fn wrong_parameters_are_told(rt: HostRuntime) -> Result<(), Fail> {
     expect_all(&rt, rt.alloc(), PARAMETERS)
+}
+
+#[test]
+fn two_of_each_kind_are_told_in_whole(rt: HostRuntime) -> Result<(), Fail> {
+    expect_all(&rt, rt.alloc(), SECONDS)
 }
 
 #[test]
@@ -83,6 +134,15 @@ fn expect_cut(rt: &impl Abort, alloc: Global, length: usize) -> Result<(), Fail>
     Ok(())
 }
 
+fn expect_empty_line(rt: &impl Abort, alloc: Global) -> Result<(), Fail> {
+    let text = vec![in alloc; b'\n'; 65_537]?;
+    let told = told_at(alloc, text.as_slice(), Kind::TooLong, 65_537, 1)?;
+    let wanted =
+        "65537 | \n      | ^ the text goes on past its limit of 65536 bytes\n      = leave out what is not needed: a text has at most 65536 bytes\n";
+    assert_eq!(rt; told.as_str(), wanted);
+    Ok(())
+}
+
 fn expect_nowhere(rt: &impl Abort, alloc: Global, text: &[u8]) -> Result<(), Fail> {
     let told = told_at(alloc, text, Kind::TooDeep, 9, 9)?;
     let wanted = "9 | \n  | ^ this opens level 33\n";
@@ -92,7 +152,8 @@ fn expect_nowhere(rt: &impl Abort, alloc: Global, text: &[u8]) -> Result<(), Fai
 
 #[test]
 fn long_lines_are_cut(rt: HostRuntime) -> Result<(), Fail> {
-    expect_cut(&rt, rt.alloc(), 65_537)
+    expect_cut(&rt, rt.alloc(), 65_537)?;
+    expect_empty_line(&rt, rt.alloc())
 }
 
 #[test]

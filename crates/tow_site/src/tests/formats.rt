@@ -1,10 +1,9 @@
 //! The formats of access logs by their numbers.
 
-use crate::{Site, compile};
+use crate::tests::site;
 use std::alloc::Global;
 use std::process::Abort;
 use std::test::Fail;
-use tow_link::PackMaker;
 use tow_model::{Piece, Template};
 
 const NESTED: &[u8] =
@@ -24,13 +23,6 @@ const ROWS: &[Row] = &[
     (NESTED, 3, b"four"),
     (NESTED, 4, b""),
 ];
-
-fn site(alloc: Global, text: &[u8]) -> Result<Site, Fail> {
-    match compile(alloc, text, &mut PackMaker::new()) {
-        Ok(site) => Ok(site),
-        Err(_fault) => Err("no site".into()),
-    }
-}
 
 fn expect_literal(rt: &impl Abort, format: &Template, want: &[u8], number: usize) {
     assert_eq!(rt; format.len(), 1, "row {number}");

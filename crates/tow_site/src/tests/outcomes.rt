@@ -1,10 +1,10 @@
 //! What texts come to for a request.
 
-use crate::{compile, is_built, outcome};
-use std::alloc::{AllocError, Global};
+use crate::tests::{request, site};
+use crate::{is_built, outcome};
+use std::alloc::Global;
 use std::test::Fail;
-use tow_link::PackMaker;
-use tow_model::{Bytes, Choice, Framing, List, Record, Request, Version};
+use tow_model::{Choice, Record};
 use tow_pred::Scratch;
 
 /// Texts, a method and a path, and the status that the text comes to.
@@ -112,25 +112,6 @@ const ROWS: [(&[u8], &[u8], &[u8], u16); 21] = [
     ),
 ];
 
-/// A request of which the text sees the method and the path.
-fn request(alloc: Global, method: &[u8], path: &[u8]) -> Result<Request, AllocError> {
-    let method = Bytes::from_slice(alloc, method)?;
-    let path = Bytes::from_slice(alloc, path)?;
-    Ok(Request {
-        method,
-        target: Bytes::from_vec(Vec::new(alloc)),
-        version: Version::V11,
-        fields: List::new(alloc),
-        url: Bytes::from_vec(Vec::new(alloc)),
-        path,
-        query: None,
-        framing: Framing::Empty,
-        expects: false,
-        keep: true,
-        peer: 0,
-    })
-}
-
 /// Texts, and the fields that they make for a GET of `/a/b`.
 const FIELDS: [(&[u8], &[(&[u8], &[u8])]); 5] = [
     (
@@ -151,10 +132,7 @@ const FIELDS: [(&[u8], &[(&[u8], &[u8])]); 5] = [
 
 /// What the text makes of the request.
 fn record_of(alloc: Global, text: &[u8], method: &[u8], path: &[u8]) -> Result<Record, Fail> {
-    let site = match compile(alloc, text, &mut PackMaker::new()) {
-        Ok(site) => site,
-        Err(_fault) => return Err("no site".into()),
-    };
+    let site = site(alloc, text)?;
     if !is_built(site.tree()) {
         return Err("not built".into());
     }

@@ -23,7 +23,7 @@ abbrev made : Version → ℕ → Record → Bool → Answer
 made version moment x close = with_fields x close (sorted (all_fields version moment x close))
 
 pub returns-clause-answer : goal.returns-clause-answer
-returns-clause-answer c = λ content o same asked.
+returns-clause-answer c = λ content o same used.
     let x = c.args.state in
     let version = c.args.request.now.version in
     let close = c.closes-close.result in
@@ -36,5 +36,5 @@ returns-clause-answer c = λ content o same asked.
     ∙ ap (λ l. (l ++ date_field c.args.moment) ++ connection) c.into_vec-fields.ensures
     ∙ append_assoc x.fields (date_field c.args.moment) connection) in
     ap (λ fields. with_fields x close fields) (c.in_ok-fields.ensures ∙ ap sorted added)
-    ∙ ap (λ b. made version c.args.moment x b) (c.closes-close.ensures content o (ap (λ s. s.choice) same) asked)
+    ∙ ap (λ b. made version c.args.moment x b) (c.closes-close.ensures content o (ap (λ s. s.choice) same) used)
     ∙ ap (λ s. made version c.args.moment s (closes c.args.request.now c.args.number content o)) (sym same)

@@ -1,12 +1,15 @@
-use Rattle.tow_site.proofs.Searching.{found_at, ok_is, ok_or_err}
+use Rattle.std.specs.Option.{option_copied}
+use Rattle.std.proofs.Common.{sym, ap, ◌∙◌}
+use Rattle.tow_site.proofs.Formats.{found, format_is, is_there}
 use Rattle.tow_site.proofs.site.Site.format.Goals as goal
 
 pub unreachable-requires : goal.unreachable-requires
 unreachable-requires c =
     let below = rw (← c.self.view_is) at c.requires in
-    ok_or_err _ _ _ (found_at _ c.args.number below) (rw c.as_slice.ensures at c.in-Err.ensures.passed)
+    is_there c.self.inside.tree c.args.number
+    (found c.self.inside.program c.self.inside.tree c.args.number _ c.self.invariant.3 (sym (ap option_copied c.in-None.is) ∙ c.format.ensures)) below
 
 pub returns : goal.returns
 returns c =
-    let below = rw (← c.self.view_is) at c.requires in
-    rw (← c.self.view_is) (ok_is _ _ _ (rw c.as_slice.ensures at c.in-Ok.ensures.found) (found_at _ c.args.number below))
+    rw (← c.self.view_is) (format_is c.self.inside.tree c.args.number c.in-Some.format.now
+    (found c.self.inside.program c.self.inside.tree c.args.number _ c.self.invariant.3 (sym (ap option_copied c.in-Some.is) ∙ c.format.ensures)))

@@ -1,0 +1,4 @@
+mod gathered;
+mod long;
+mod rows;
+mod sources;

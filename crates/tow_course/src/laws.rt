@@ -1,0 +1,58 @@
+//! Laws of the definitions, each the contract of a function that does nothing.
+
+ghost use Rattle.tow_course.specs.Breaks.{CourseBreaks};
+ghost use Rattle.tow_course.specs.Course.{
+  CourseAdvances,
+  CourseHears,
+  CourseLooks,
+  CourseOpens,
+  CourseReads,
+  CourseStops,
+  CourseWaitsForContent,
+  CourseWaitsForVerdict,
+};
+
+/// An exchange that has just begun has all of its outcome left to play.
+pub fn course_opens()
+    ensures { CourseOpens }
+{}
+
+/// A call of `advance` leaves what is to be played.
+pub fn course_advances()
+    ensures { CourseAdvances }
+{}
+
+/// A verdict that an exchange waits for is the next one of its outcome.
+pub fn course_hears()
+    ensures { CourseHears }
+{}
+
+/// The content that an exchange waits for is that of its outcome.
+pub fn course_reads()
+    ensures { CourseReads }
+{}
+
+/// The page that an exchange waits for is the one that its outcome finds.
+pub fn course_looks()
+    ensures { CourseLooks }
+{}
+
+/// The record of an exchange that has stopped is that of its outcome, whatever still comes.
+pub fn course_stops()
+    ensures { CourseStops }
+{}
+
+/// The outcome of an exchange that waits for its content waits there, as long as that does not come.
+pub fn course_waits_for_content()
+    ensures { CourseWaitsForContent }
+{}
+
+/// The outcome of an exchange that waits for a verdict waits there, as long as none comes.
+pub fn course_waits_for_verdict()
+    ensures { CourseWaitsForVerdict }
+{}
+
+/// What an exchange that is cut short has done is a front of what its outcome does.
+pub fn course_breaks()
+    ensures { CourseBreaks }
+{}

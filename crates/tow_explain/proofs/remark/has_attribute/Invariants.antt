@@ -1,6 +1,0 @@
-use Rattle.std.proofs.Common.{◌≡◌, drop}
-use Rattle.tow_explain.specs.Remarks.{has_attribute}
-use Rattle.tow_explain.proofs.remark.has_attribute.Given as goal
-
-abbrev pub invariant-places : goal.invariant-places
-invariant-places l = has_attribute (drop l.at l.value) ≡ has_attribute l.value

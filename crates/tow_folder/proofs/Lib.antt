@@ -1,0 +1,6 @@
+pub mod Below
+pub mod Children
+pub mod Lengths
+pub mod Maps
+pub mod Placing
+pub mod TestPaths

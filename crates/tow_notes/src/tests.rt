@@ -1,0 +1,5 @@
+//! What is noted on texts without a fault.
+
+mod noting;
+mod remarks;
+mod right;

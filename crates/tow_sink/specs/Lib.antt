@@ -1,0 +1,9 @@
+pub mod Feeds
+pub mod Calls
+pub mod Steps
+pub mod PlainFeeding
+pub mod FixedFeeding
+pub mod HeadOnlyFeeding
+pub mod ChunkedFeeding
+pub mod BufferedFeeding
+pub mod Whole
