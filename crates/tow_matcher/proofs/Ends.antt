@@ -10,6 +10,7 @@ use Rattle.tow_model.specs.Texts.{Text, begins_with}
 use Rattle.tow_model.specs.Paths.{slash, is_prefix}
 use Rattle.tow_matcher.specs.declared.row.Row.{Row}
 use Rattle.tow_matcher.specs.Firsts.{row_holds}
+use Rattle.tow_matcher.specs.Borders.{HasPath}
 use Rattle.tow_matcher.specs.Keys.{IsOfKey}
 
 one_of : (a b : Bool) (P : Type 0) → (a ≡ true → P) → (b ≡ true → P) → (a || b) ≡ true → P
@@ -60,16 +61,35 @@ abbrev pub HoldsBefore : Text → ℕ → Row → Type 0
 HoldsBefore path end row =
     IsOfKey false path row ⊎ (IsOfKey true path row ⊎ ((place : ℕ) × (place < end) × IsBorder path place row.path × (row.prefix ≡ true)))
 
-pub whole_there : (path : Text) (row : Row) → IsOfKey true path row → HoldsBefore path 0 row
-whole_there path row key = inr (inl key)
+-- a row of the path is of one of the kinds
+pub of_either : (path : Text) (row : Row) → HasPath path row → IsOfKey false path row ⊎ IsOfKey true path row
+of_either path row has = by row.prefix refl
+  where
+    by : (b : Bool) → row.prefix ≡ b → IsOfKey false path row ⊎ IsOfKey true path row
+    by false kind = inl (kind, has)
+    by true kind = inr (kind, has)
 
-pub exact_there : (path : Text) (row : Row) → IsOfKey false path row → HoldsBefore path 0 row
-exact_there path row key = inl key
+-- and of no prefix if the path is longer than those
+pub of_no_prefix : (path : Text) (reach : ℕ) → reach ≤ length path → (row : Row) → (row.prefix ≡ true → length row.path < reach)
+    → HasPath path row → IsOfKey false path row
+of_no_prefix path reach long row short has = by row.prefix refl
+  where
+    by : (b : Bool) → row.prefix ≡ b → IsOfKey false path row
+    by false kind = (kind, has)
+    by true kind = absurd (omega (arith, short kind, ap length has, long))
 
-pub whole_back : (path : Text) (row : Row) → HoldsBefore path 0 row → IsOfKey false path row ⊎ IsOfKey true path row
-whole_back path row (inl key) = inl key
-whole_back path row (inr (inl key)) = inr key
-whole_back path row (inr (inr (place, low, border, kind))) = absurd (omega (arith, low))
+-- before the first place, a row that holds has the path
+pub path_there : (path : Text) (row : Row) → HasPath path row → HoldsBefore path 0 row
+path_there path row has = side (of_either path row has)
+  where
+    side : IsOfKey false path row ⊎ IsOfKey true path row → HoldsBefore path 0 row
+    side (inl key) = inl key
+    side (inr key) = inr (inl key)
+
+pub path_back : (path : Text) (row : Row) → HoldsBefore path 0 row → HasPath path row
+path_back path row (inl key) = key.1
+path_back path row (inr (inl key)) = key.1
+path_back path row (inr (inr (place, low, border, kind))) = absurd (omega (arith, low))
 
 pub before_more : (path : Text) (end : ℕ) (row : Row) → HoldsBefore path end row → HoldsBefore path (end + 1) row
 before_more path end row (inl key) = inl key
@@ -106,9 +126,9 @@ holds_there path end row (inl key) = let k = key.0 in rw k ((bytes_eq-Decides ro
 holds_there path end row (inr (inl key)) = let k = key.0 in rw k (is_under row.path path (inl (sym key.1)))
 holds_there path end row (inr (inr (place, low, border, kind))) = rw kind (is_under row.path path (border_under path place row.path border))
 
-pub holds_back : (path : Text) (end longest : ℕ) (row : Row) → ((place : ℕ) → place < length path → place ≤ longest → place < end)
-    → (row.prefix ≡ true → length row.path ≤ longest) → row_holds path row ≡ true → HoldsBefore path end row
-holds_back path end longest row bound short is = by row.prefix refl is
+pub holds_back : (path : Text) (end reach : ℕ) (row : Row) → ((place : ℕ) → place < length path → place < reach → place < end)
+    → (row.prefix ≡ true → length row.path < reach) → row_holds path row ≡ true → HoldsBefore path end row
+holds_back path end reach row bound short is = by row.prefix refl is
   where
     prefixed : row.prefix ≡ true → Under row.path path → HoldsBefore path end row
     prefixed kind (inl e) = inr (inl (kind, sym e))

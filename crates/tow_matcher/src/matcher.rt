@@ -12,8 +12,8 @@ ghost use Rattle.std.specs.Prelude.{
   slice_index,
 };
 ghost use Rattle.tow_model.specs.Paths.{slash};
-ghost use Rattle.tow_matcher.specs.Firsts.{first_row, earlier_of};
-ghost use Rattle.tow_matcher.specs.Borders.{AreNoLonger};
+ghost use Rattle.tow_matcher.specs.Firsts.{IsFirst, earlier_of, first_row};
+ghost use Rattle.tow_matcher.specs.Borders.{ArePrefixesBelow, HasPath};
 
 use crate::row::Row;
 use crate::table::{first_of, table_of};
@@ -26,33 +26,33 @@ use tow_model::{List, NoMemory};
 pub struct Matcher {
     rows: List<Row>,
     order: Vec<usize>,
-    longest: usize,
+    reach: usize,
 }
 
 impl Model for Matcher {
     ghost use Rattle.std.specs.Prelude.{List};
     ghost use Rattle.tow_matcher.specs.declared.row.Row.{Row};
     ghost use Rattle.tow_matcher.specs.Keys.{IsTable};
-    ghost use Rattle.tow_matcher.specs.Borders.{AreNoLonger};
+    ghost use Rattle.tow_matcher.specs.Borders.{ArePrefixesBelow};
 
     ghost Value = { List Row };
 
     ghost view = { λ m. m.rows };
 
-    ghost invariant = { λ m. IsTable m.rows m.order.items × AreNoLonger m.longest m.rows };
+    ghost invariant = { λ m. IsTable m.rows m.order.items × ArePrefixesBelow m.reach m.rows };
 }
 
-/// The length in bytes of the longest prefix.
-fn longest_prefix(rows: &[Row]) -> usize
-    ensures { AreNoLonger result rows.now }
+/// One more than the length in bytes of the longest prefix, and 0 where no row is a prefix.
+fn reach_of(rows: &[Row]) -> usize
+    ensures { ArePrefixesBelow result rows.now }
 {
-    let mut longest = 0;
+    let mut reach = 0;
     for row in rows {
         if row.prefix {
-            longest = row.path.len().max(longest);
+            reach = (row.path.as_slice().len() + 1).max(reach);
         }
     }
-    longest
+    reach
 }
 
 /// Whether a prefix of the path may end at the place, which is before a `/`.
@@ -80,31 +80,41 @@ impl Matcher {
         ensures { IfOk result (λ m. m ≡ rows) }
     {
         let order = table_of(alloc, rows.as_slice())?;
-        let longest = longest_prefix(rows.as_slice());
-        Ok(Matcher {
-            rows,
-            order,
-            longest,
-        })
+        let reach = reach_of(rows.as_slice());
+        Ok(Matcher { rows, order, reach })
     }
 
-    /// The number of the first row from the number `from` on that holds for the path. Takes no memory. Costs two searches
-    /// in the table, and one more for each `/` of the path that is not behind the length of the longest prefix.
+    /// The number of the first row from the number `from` on that holds for the path. Takes no memory. Costs one search in
+    /// the table among the rows that are no prefixes, and among the prefixes one for the whole path if no longer than the
+    /// longest prefix, and one for each `/` of the path that is not behind the length of the longest prefix: none where no
+    /// row is a prefix.
     pub fn first(&self, path: &[u8], from: usize) -> Option<usize>
         ensures row { result ≡ first_row self.now path.now from }
         ensures within { IfSome result (λ n. (from ≤ n) × (n < length self.now)) }
     {
         let rows = self.rows.as_slice();
         let order = self.order.as_slice();
-        let mut best = earlier(
-            first_of(rows, order, false, path, from),
-            first_of(rows, order, true, path, from),
-        );
-        for end in 0..path.len().min(self.longest.saturating_add(1)) {
+        let mut best = self.first_of_path(path, from);
+        for end in 0..path.len().min(self.reach) {
             if is_border(path, end) {
                 best = earlier(best, first_of(rows, order, true, &path[..end], from));
             }
         }
         best
+    }
+
+    /// The number of the first row from the number `from` on that has this path, of either kind. No prefix has one that is
+    /// longer than the longest.
+    fn first_of_path(&self, path: &[u8], from: usize) -> Option<usize>
+        ensures { IsFirst (HasPath path.now) self.now from result }
+    {
+        let rows = self.rows.as_slice();
+        let order = self.order.as_slice();
+        let exact = first_of(rows, order, false, path, from);
+        if path.len() < self.reach {
+            earlier(exact, first_of(rows, order, true, path, from))
+        } else {
+            exact
+        }
     }
 }
