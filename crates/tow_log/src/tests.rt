@@ -1,13 +1,16 @@
+//! Each attribute in a line, and the formats that have names of their own.
+
 ghost use Rattle.std.specs.Prelude.{◌<◌};
 ghost use Rattle.tow_model.specs.Dates.{first_undated};
 
+mod controls;
+
 use crate::line;
 use std::alloc::{AllocError, Global};
+use std::process::Abort;
 use std::test::Fail;
 use tow_attr::read_template;
-use tow_model::{
-    Attribute, Bytes, Choice, Field, Framing, List, NoMemory, Piece, Record, Request, Version,
-};
+use tow_model::{Bytes, Choice, Field, Framing, List, NoMemory, Record, Request, Version};
 
 /// `Sun, 06 Nov 1994 08:49:37 GMT`.
 const MOMENT: u64 = 784_111_777;
@@ -80,7 +83,7 @@ const UNDECIDED: Facts = Facts {
 
 /// A format, and its line if everything is there, if it is not, if it is empty, and if nothing was
 /// decided.
-const ATTRIBUTES: [(&[u8], [&[u8]; 4]); 28] = [
+const ATTRIBUTES: [(&[u8], [&[u8]; 4]); 34] = [
     (b"%m", [b"GET", b"-", b"-", b"GET"]),
     (b"%{METHOD}", [b"GET", b"-", b"-", b"GET"]),
     (b"%U", [b"/a%2Fb", b"-", b"-", b"/a%2Fb"]),
@@ -100,28 +103,29 @@ const ATTRIBUTES: [(&[u8], [&[u8]; 4]); 28] = [
             b"<GET /t HTTP/1.1>",
         ],
     ),
+    (
+        b"<%{REQUEST_LINE}>",
+        [
+            b"<GET /t HTTP/1.1>",
+            b"< /t HTTP/1.1>",
+            b"< /t HTTP/1.1>",
+            b"<GET /t HTTP/1.1>",
+        ],
+    ),
     (b"%H", [b"HTTP/1.1", b"HTTP/1.1", b"HTTP/1.1", b"HTTP/1.1"]),
     (
-        b"%a",
-        [
-            b"192.168.1.15",
-            b"192.168.1.15",
-            b"192.168.1.15",
-            b"192.168.1.15",
-        ],
+        b"%{PROTOCOL}",
+        [b"HTTP/1.1", b"HTTP/1.1", b"HTTP/1.1", b"HTTP/1.1"],
     ),
-    (
-        b"%h",
-        [
-            b"192.168.1.15",
-            b"192.168.1.15",
-            b"192.168.1.15",
-            b"192.168.1.15",
-        ],
-    ),
+    (b"%a", [PEER, PEER, PEER, PEER]),
+    (b"%{REMOTE_IP}", [PEER, PEER, PEER, PEER]),
+    (b"%h", [PEER, PEER, PEER, PEER]),
+    (b"%{REMOTE_HOST}", [PEER, PEER, PEER, PEER]),
     (b"%l", [b"-", b"-", b"-", b"-"]),
     (b"%u", [b"-", b"-", b"-", b"-"]),
+    (b"%{REMOTE_USER}", [b"-", b"-", b"-", b"-"]),
     (b"%t", [DATE, DATE, DATE, DATE]),
+    (b"%{DATE_TIME}", [DATE, DATE, DATE, DATE]),
     (b"%B", [b"12", b"0", b"0", b"-"]),
     (b"%{BYTES_SENT}", [b"12", b"0", b"0", b"-"]),
     (b"%b", [b"12", b"-", b"-", b"-"]),
@@ -137,6 +141,8 @@ const ATTRIBUTES: [(&[u8], [&[u8]; 4]); 28] = [
         [b"<1me\t>", b"<--\t>", b"<--\t>", b"<--\t>"],
     ),
 ];
+
+const PEER: &[u8] = b"192.168.1.15";
 
 const DATE: &[u8] = b"[06/Nov/1994:08:49:37 +0000]";
 
@@ -231,8 +237,8 @@ fn each_attribute_in_a_line(rt: HostRuntime) -> Result<(), Fail> {
 /// A method, a status, a decision and a format, and the line.
 type Standard = (&'static [u8], u16, bool, &'static [u8], &'static [u8]);
 
-/// The two formats that have names of their own.
-const STANDARDS: [Standard; 6] = [
+/// The two formats that have names of their own, and what was sent, of what a browser asks.
+const STANDARDS: [Standard; 10] = [
     (
         b"GET",
         200,
@@ -269,11 +275,46 @@ const STANDARDS: [Standard; 6] = [
         b"127.0.0.1 - - [01/Jan/1970:00:00:00 +0000] \"GET / HTTP/1.1\" 200 12 \"/\" \"M/5\"",
     ),
     (
+        b"HEAD",
+        200,
+        true,
+        COMBINED,
+        b"127.0.0.1 - - [01/Jan/1970:00:00:00 +0000] \"HEAD / HTTP/1.1\" 200 - \"/\" \"M/5\"",
+    ),
+    (
         b"GET",
         200,
         false,
         COMBINED,
         b"127.0.0.1 - - [01/Jan/1970:00:00:00 +0000] \"GET / HTTP/1.1\" - - \"/\" \"M/5\"",
+    ),
+    (b"HEAD", 200, true, b"%B %{BYTES_SENT} %b", b"0 0 -"),
+    (b"HEAD", 200, false, b"%B %{BYTES_SENT} %b", b"- - -"),
+    (b"POST", 200, true, b"%B %{BYTES_SENT} %b", b"12 12 12"),
+];
+
+/// The same without what a browser tells of itself, whether its fields are missing or empty.
+const UNTOLD: [Standard; 3] = [
+    (
+        b"GET",
+        200,
+        true,
+        COMMON,
+        b"127.0.0.1 - - [01/Jan/1970:00:00:00 +0000] \"GET / HTTP/1.1\" 200 12",
+    ),
+    (
+        b"GET",
+        200,
+        true,
+        COMBINED,
+        b"127.0.0.1 - - [01/Jan/1970:00:00:00 +0000] \"GET / HTTP/1.1\" 200 12 \"-\" \"-\"",
+    ),
+    (
+        b"GET",
+        200,
+        false,
+        COMBINED,
+        b"127.0.0.1 - - [01/Jan/1970:00:00:00 +0000] \"GET / HTTP/1.1\" - - \"-\" \"-\"",
     ),
 ];
 
@@ -283,12 +324,24 @@ const BROWSED: Facts = Facts {
     ..PRESENT
 };
 
-fn standard_line(alloc: Global, row: &Standard) -> Result<Bytes, NoMemory> {
-    let mut request = request(alloc, &BROWSED)?;
+/// What a program sends that tells nothing of itself.
+const SILENT: Facts = Facts {
+    fields: &[],
+    ..PRESENT
+};
+
+/// What a program sends that has nothing to tell.
+const HOLLOW: Facts = Facts {
+    fields: &[(b"Referer", b""), (b"User-Agent", b"")],
+    ..PRESENT
+};
+
+fn standard_line(alloc: Global, facts: &Facts, row: &Standard) -> Result<Bytes, NoMemory> {
+    let mut request = request(alloc, facts)?;
     request.method = Bytes::from_slice(alloc, row.0)?;
     request.peer = 0x7F00_0001;
     request.target = Bytes::from_slice(alloc, b"/")?;
-    let mut exchange = exchange(alloc, &BROWSED)?;
+    let mut exchange = exchange(alloc, facts)?;
     exchange.status = row.1;
     if !row.2 {
         exchange.choice = Choice::Undecided;
@@ -296,78 +349,23 @@ fn standard_line(alloc: Global, row: &Standard) -> Result<Bytes, NoMemory> {
     line_of(alloc, row.3, &request, &exchange, 0)
 }
 
-#[test]
-fn formats_with_names(rt: HostRuntime) -> Result<(), Fail> {
-    for (i, row) in STANDARDS.iter().enumerate() {
-        let shown = standard_line(rt.alloc(), row)?;
+fn expect_standards(
+    rt: &impl Abort,
+    alloc: Global,
+    facts: &Facts,
+    rows: &[Standard],
+) -> Result<(), Fail> {
+    for (i, row) in rows.iter().enumerate() {
+        let shown = standard_line(alloc, facts, row)?;
         assert!(rt; shown.as_slice() == row.4, "row {i}");
     }
     Ok(())
 }
 
-/// A value of a field, and its line.
-const CONTROLS: [Pair; 6] = [
-    (b"a\tb", b"a\\x09b"),
-    (
-        b"\x00\x1f\x20\x7e\x7f\x80\xff",
-        b"\\x00\\x1f ~\\x7f\x80\xff",
-    ),
-    (b"\r\n200", b"\\x0d\\x0a200"),
-    (b"\"\\x\"", b"\"\\x\""),
-    (b" ", b" "),
-    (b"\x0a", b"\\x0a"),
-];
-
-/// The line of a field's value, after so many bytes of the format.
-fn line_after(alloc: Global, len: usize, value: &[u8]) -> Result<Bytes, NoMemory> {
-    let mut bytes = Vec::new(alloc);
-    bytes.resize(len, b'\t')?;
-    let mut format = List::new(alloc);
-    format.push(Piece::Literal(Bytes::from_vec(bytes)))?;
-    let name = Bytes::from_slice(alloc, b"x")?;
-    format.push(Piece::Value(Attribute::RequestField(name)))?;
-    let mut fields = List::new(alloc);
-    let name = Bytes::from_slice(alloc, b"X")?;
-    let value = Bytes::from_slice(alloc, value)?;
-    fields.push(Field { name, value })?;
-    let mut request = request(alloc, &PRESENT)?;
-    request.fields = fields;
-    let exchange = exchange(alloc, &PRESENT)?;
-    line(alloc, &format, &request, &exchange, MOMENT)
-}
-
 #[test]
-fn control_bytes_are_shown(rt: HostRuntime) -> Result<(), Fail> {
-    for (i, (value, wanted)) in CONTROLS.iter().enumerate() {
-        let shown = line_after(rt.alloc(), 0, value)?;
-        assert!(rt; shown.as_slice() == *wanted, "row {i}");
-    }
-    Ok(())
-}
-
-/// How many bytes of a format come first, a value after them, the line's length, and its end.
-const CUTS: [(usize, &[u8], usize, &[u8]); 7] = [
-    (65_531, b"\x1f", 65_535, b"\t\\x1f"),
-    (65_532, b"\x1f", 65_536, b"\t\\x1f"),
-    (65_533, b"\x1f", 65_536, b"\t\\x1"),
-    (65_535, b"\x1f", 65_536, b"\t\\"),
-    (65_535, b"", 65_536, b"\t-"),
-    (65_536, b"", 65_536, b"\t"),
-    (65_537, b"\x1f", 65_536, b"\t"),
-];
-
-#[test]
-fn lines_are_cut(rt: HostRuntime) -> Result<(), Fail> {
+fn formats_with_names(rt: HostRuntime) -> Result<(), Fail> {
     let alloc = rt.alloc();
-    for (i, (len, value, wanted, end)) in CUTS.iter().enumerate() {
-        let shown = line_after(alloc, *len, value)?;
-        assert!(rt; shown.len() == *wanted, "row {i}");
-        assert!(rt; shown.as_slice().ends_with(end), "row {i}");
-    }
-    let mut largest = Vec::new(alloc);
-    largest.resize(65_536, b'\x01')?;
-    let shown = line_after(alloc, 0, &largest)?;
-    assert_eq!(rt; shown.len(), 65_536);
-    assert!(rt; shown.as_slice().ends_with(b"\\x01"));
-    Ok(())
+    expect_standards(&rt, alloc, &BROWSED, &STANDARDS)?;
+    expect_standards(&rt, alloc, &SILENT, &UNTOLD)?;
+    expect_standards(&rt, alloc, &HOLLOW, &UNTOLD)
 }
