@@ -22,13 +22,17 @@ const BAD: &str = "the command does not take these words";
 const NONE: &str = "no command has this name";
 
 /// Words, and what they ask for.
-const ROWS: [(&[&str], &str); 48] = [
+const ROWS: [(&[&str], &str); 61] = [
     (&[], NONE),
     (&[""], NONE),
     (&["Check", "t"], NONE),
     (&["--help"], NONE),
     (&["--moment", "1", "ask", "d", "t"], NONE),
     (&["nosuch", "t"], NONE),
+    (&["ASK", "d", "t"], NONE),
+    (&["ask ", "d", "t"], NONE),
+    (&["--", "check", "t"], NONE),
+    (&["checks", "t"], NONE),
     (&["check", "t"], "Check { text: \"t\" }"),
     (&["check", ""], "Check { text: \"\" }"),
     (&["check", "--", "--help"], "Check { text: \"--help\" }"),
@@ -39,6 +43,7 @@ const ROWS: [(&[&str], &str); 48] = [
     (&["check", "-h"], BAD),
     (&["check", "--version"], BAD),
     (&["check", "t", "--moment", "1"], BAD),
+    (&["check", "t", "--", "u"], BAD),
     (
         &["ask", "d", "t"],
         "Ask { dir: \"d\", text: \"t\", moment: None }",
@@ -60,6 +65,7 @@ const ROWS: [(&[&str], &str); 48] = [
         "Ask { dir: \"d\", text: \"t\", moment: Some(253402300799) }",
     ),
     (&["ask", "d", "t", "--moment", "253402300800"], BAD),
+    (&["ask", "d", "t", "--moment=253402300800"], BAD),
     (&["ask", "d", "t", "--moment", "18446744073709551616"], BAD),
     (&["ask", "d", "t", "--moment", "-1"], BAD),
     (&["ask", "d", "t", "--moment", "1x"], BAD),
@@ -78,11 +84,21 @@ const ROWS: [(&[&str], &str); 48] = [
     (&["drill", "1001"], BAD),
     (&["drill", "-1"], BAD),
     (&["drill"], BAD),
+    (&["drill", "1", "2"], BAD),
+    (&["drill", "1", "--slots", "1"], BAD),
     (&["serve", "d", "t", "127.0.0.1:80"], SERVED),
     (&["serve", "d", "t"], BAD),
+    (&["serve", "d", "t", "a", "b"], BAD),
+    (&["serve", "d", "t", "a", "--moment", "1"], BAD),
     (&["serve", "d", "t", "a", "--loops", "0"], BAD),
+    (&["serve", "d", "t", "a", "--loops", "17"], BAD),
     (&["serve", "d", "t", "a", "--workers=65"], BAD),
     (&["serve", "d", "t", "a", "--slots", "1025"], BAD),
+    (
+        &["serve", "d", "t", "a", "--connections", "2147483648"],
+        BAD,
+    ),
+    (&["serve", "d", "t", "a", "--slots=1", "--slots=1"], BAD),
 ];
 
 const ASKED: &str = "Ask { dir: \"d\", text: \"t\", moment: Some(12) }";
