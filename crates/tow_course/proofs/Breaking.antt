@@ -19,7 +19,8 @@ use Rattle.tow_advance.specs.Under.{plan_in}
 use Rattle.tow_course.specs.Course.{Course, notes_of, Agrees, given_to, outcome_with, IsOnCourse}
 use Rattle.tow_course.specs.Breaks.{IsFrontOf, IsBroken, Breaks, CourseBreaks}
 use Rattle.tow_course.proofs.Coursing.{logs_leave_none}
-use Rattle.tow_course.proofs.Widening.{exchange_widens, play_enters}
+use Rattle.tow_course.proofs.Growing.{exchange_widens}
+use Rattle.tow_course.proofs.Widening.{play_enters}
 
 module _ (tree : List Statement) (files : Files) (e : ExchangeData) (n : Course) (on : IsOnCourse tree files e n) where
   -- an exchange with what is left to play of e

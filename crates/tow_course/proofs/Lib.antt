@@ -1,3 +1,4 @@
 pub mod Widening
+pub mod Growing
 pub mod Coursing
 pub mod Breaking

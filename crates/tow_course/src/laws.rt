@@ -11,6 +11,7 @@ ghost use Rattle.tow_course.specs.Course.{
   CourseWaitsForContent,
   CourseWaitsForVerdict,
 };
+ghost use Rattle.tow_course.specs.Growing.{ListenersGrow};
 
 /// An exchange that has just begun has all of its outcome left to play.
 pub fn course_opens()
@@ -55,4 +56,10 @@ pub fn course_waits_for_verdict()
 /// What an exchange that is cut short has done is a front of what its outcome does.
 pub fn course_breaks()
     ensures { CourseBreaks }
+{}
+
+/// The listeners of an exchange are a front of those at its next stop, and so on from stop to stop, and of those with which
+/// it ends, whatever it is given.
+pub fn listeners_grow()
+    ensures { ListenersGrow }
 {}

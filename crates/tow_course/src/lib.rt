@@ -2,7 +2,8 @@
 //! Definitions in `specs/`, no running code:
 //!
 //! - `Course`: what an exchange got so far, and that what is left to play comes to the outcome of its text;
-//! - `Breaks`: what is true of an exchange that is cut short.
+//! - `Breaks`: what is true of an exchange that is cut short;
+//! - `Growing`: listeners are only ever added, from stop to stop.
 //!
 //! `laws` states how a course opens and goes on, each law as the contract of a function that does nothing.
 #![tactic(auto)]
@@ -11,5 +12,5 @@ mod laws;
 
 pub use laws::{
     course_advances, course_breaks, course_hears, course_looks, course_opens, course_reads,
-    course_stops, course_waits_for_content, course_waits_for_verdict,
+    course_stops, course_waits_for_content, course_waits_for_verdict, listeners_grow,
 };
