@@ -1,8 +1,9 @@
 -- What contracts see of an exchange that completed.
-use Rattle.std.specs.Prelude.{ℕ, List, reverse}
+use Rattle.std.specs.Prelude.{ℕ, List, [], None, reverse}
 use Rattle.tow_model.specs.declared.request.Request.{Request}
 use Rattle.tow_model.specs.declared.record.Record.{Record}
 use Rattle.tow_model.specs.declared.record.Listener.{Listener}
+use Rattle.tow_model.specs.declared.record.Choice.TheVariants.{Undecided}
 use Rattle.tow_exchange.specs.Exchanges.{ExchangeData}
 
 -- a completed exchange as contracts see it
@@ -26,3 +27,25 @@ completion e = record {
   state = e.stand.state;
   left = reverse e.stand.state.listeners;
 }
+
+-- WHEN ITS RECORD GOES ON INTO THE ANSWER
+
+-- the record that goes on: the listeners stay behind
+abbrev pub without_listeners : Record → Record
+without_listeners x = record x { listeners = [] }
+
+-- a record of nothing but listeners
+abbrev pub bare : List Listener → Record
+bare listeners = record {
+  path = [];
+  query = None;
+  status = 200;
+  fields = [];
+  context = [];
+  listeners = listeners;
+  choice = Undecided;
+}
+
+-- what stays of the exchange: all but what was taken
+abbrev pub without_record : CompletedData → CompletedData
+without_record c = record c { state = bare c.state.listeners }

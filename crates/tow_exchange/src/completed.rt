@@ -1,10 +1,12 @@
 //! An exchange that completed.
 
 ghost use Rattle.std.specs.Prelude.{◌≡◌, [], ◌∷◌, IfSome, IfNone, length, reverse};
-ghost use Rattle.tow_exchange.specs.Completions.{CompletedData};
+ghost use Rattle.tow_exchange.specs.Completions.{CompletedData, bare, without_listeners, without_record};
 
+use std::alloc::Global;
 use std::marker::Model;
-use tow_model::{Listener, Record, Request};
+use std::mem;
+use tow_model::{Bytes, Choice, List, Listener, Record, Request};
 
 /// An exchange that completed. Its listeners are taken out one by one, the last added first.
 #[derive(Drop)]
@@ -78,6 +80,18 @@ impl Completed {
         Some(self.state.listeners.as_slice()[self.left])
     }
 
+    /// Takes the record out, so that it goes on into the answer without a copy. Its listeners stay here, and those that are
+    /// left still run. Takes no memory.
+    pub fn take_record(&mut self, alloc: Global) -> Record
+        ensures taken { result ≡ without_listeners self.old.state }
+        ensures rest { self.new ≡ without_record self.old }
+    {
+        let mut taken = no_record(alloc);
+        mem::swap(&mut self.state, &mut taken);
+        mem::swap(&mut self.state.listeners, &mut taken.listeners);
+        taken
+    }
+
     /// The number of its connection, from 0.
     pub fn connection(&self) -> u32
         ensures { result ≡ self.now.connection }
@@ -106,10 +120,25 @@ impl Completed {
         self.moment
     }
 
-    /// The record that it completed with. It keeps all listeners, also those that have run.
+    /// The record that it completed with, until it is taken. It keeps all listeners, also those that have run.
     pub fn state(&self) -> &Record
         ensures { result.now ≡ self.now.state }
     {
         &self.state
+    }
+}
+
+/// The record that stands where one was taken. Takes no memory.
+fn no_record(alloc: Global) -> Record
+    ensures { result ≡ bare [] }
+{
+    Record {
+        path: Bytes::from_vec(Vec::new(alloc)),
+        query: None,
+        status: 200,
+        fields: List::new(alloc),
+        context: List::new(alloc),
+        listeners: List::new(alloc),
+        choice: Choice::Undecided,
     }
 }

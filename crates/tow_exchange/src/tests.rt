@@ -104,6 +104,28 @@ fn each_listener_runs_once_last_added_first(rt: HostRuntime) -> Result<(), Fail>
     expect_each_once(&rt, rt.alloc(), ADDED)
 }
 
+fn expect_taken(rt: &impl Abort, alloc: Global, added: &[Listener]) -> Result<(), Fail> {
+    let mut completed = completed(alloc, added)?;
+    expect_beginning(rt, &completed.take_record(alloc));
+    assert_eq!(rt; completed.state().path.len(), 0);
+    assert_eq!(rt; completed.request().path.as_slice(), b"/a".as_slice());
+    expect_runs(rt, &mut completed, added);
+    expect_ended(rt, &mut completed);
+    Ok(())
+}
+
+fn expect_each_taken(rt: &impl Abort, alloc: Global, rows: &[&[Listener]]) -> Result<(), Fail> {
+    for added in rows {
+        expect_taken(rt, alloc, added)?;
+    }
+    Ok(())
+}
+
+#[test]
+fn listeners_run_once_the_record_is_taken(rt: HostRuntime) -> Result<(), Fail> {
+    expect_each_taken(&rt, rt.alloc(), ADDED)
+}
+
 #[test]
 fn a_completed_exchange_keeps_its_request(rt: HostRuntime) -> Result<(), Fail> {
     let completed = completed(rt.alloc(), &[])?;
