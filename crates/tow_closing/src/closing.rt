@@ -5,7 +5,7 @@ ghost use Rattle.tow_model.specs.Dates.{first_undated};
 ghost use Rattle.tow_program.specs.Actions.{formats_in};
 ghost use Rattle.tow_semantics.specs.Listeners.{at_number};
 ghost use Rattle.tow_semantics.specs.Values.{line_of};
-ghost use Rattle.tow_exchange.specs.Completions.{completion};
+ghost use Rattle.tow_exchange.specs.Completions.{completion, without_listeners, without_record};
 ghost use Rattle.tow_closing.specs.Closings.{Does, line_told};
 
 use crate::work::Work;
@@ -78,6 +78,16 @@ impl Closing {
                 Some(Work::Tell { number, line })
             }
         }
+    }
+
+    /// Takes the record out, so that it goes on into the answer without a copy. The listeners that are left still run, with
+    /// their lines. Takes no memory.
+    pub fn take_record(&mut self, alloc: Global) -> Record
+        ensures taken { result ≡ without_listeners self.old.completed.state }
+        ensures rest { self.new
+            ≡ record self.old { completed = without_record self.old.completed } }
+    {
+        self.completed.take_record(alloc)
     }
 
     /// Whether there was no memory for the lines.

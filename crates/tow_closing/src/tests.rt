@@ -95,8 +95,8 @@ const ROWS: [Row; 5] = [
     ),
 ];
 
-fn does(alloc: Global, listeners: &[Listener]) -> Result<Vec<u8>, Fail> {
-    let mut closing = closing(alloc, listeners)?;
+/// What the listeners do that are left.
+fn done_by(alloc: Global, closing: &mut Closing) -> Result<Vec<u8>, Fail> {
     let mut done = Vec::new(alloc);
     for _ in 0..8 {
         match closing.next() {
@@ -107,9 +107,18 @@ fn does(alloc: Global, listeners: &[Listener]) -> Result<Vec<u8>, Fail> {
     Err("no end".into())
 }
 
-fn expect_all(rt: &impl Abort, alloc: Global, rows: &[Row]) -> Result<(), Fail> {
+/// What these listeners do, before or after the record is taken.
+fn does(alloc: Global, listeners: &[Listener], is_taken: bool) -> Result<Vec<u8>, Fail> {
+    let mut closing = closing(alloc, listeners)?;
+    if is_taken && closing.take_record(alloc).path.len() != 2 {
+        return Err("another record".into());
+    }
+    done_by(alloc, &mut closing)
+}
+
+fn expect_all(rt: &impl Abort, alloc: Global, rows: &[Row], is_taken: bool) -> Result<(), Fail> {
     for (i, (listeners, want)) in rows.iter().enumerate() {
-        let done = does(alloc, listeners)?;
+        let done = does(alloc, listeners, is_taken)?;
         assert_eq!(rt; done.as_slice(), *want, "row {i}");
     }
     Ok(())
@@ -117,5 +126,10 @@ fn expect_all(rt: &impl Abort, alloc: Global, rows: &[Row]) -> Result<(), Fail> 
 
 #[test]
 fn listeners_run_once_the_last_first(rt: HostRuntime) -> Result<(), Fail> {
-    expect_all(&rt, rt.alloc(), &ROWS)
+    expect_all(&rt, rt.alloc(), &ROWS, false)
+}
+
+#[test]
+fn listeners_run_once_the_record_is_taken(rt: HostRuntime) -> Result<(), Fail> {
+    expect_all(&rt, rt.alloc(), &ROWS, true)
 }
