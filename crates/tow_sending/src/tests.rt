@@ -300,6 +300,11 @@ fn expect_next(rt: &impl Abort, alloc: Global, rows: &[Next]) -> Result<(), NoMe
         let mut fitting = Pipe::new(alloc, takes)?;
         assert_eq!(rt; sending.put(&mut fitting), tells);
         assert_eq!(rt; fitting.len(), takes);
+        // With room for all, one call puts no more.
+        let mut again = after(rt, alloc, *row)?;
+        let mut roomy = Pipe::new(alloc, 65_536)?;
+        assert_eq!(rt; again.put(&mut roomy), tells);
+        assert_eq!(rt; roomy.len(), takes);
     }
     Ok(())
 }

@@ -9,6 +9,7 @@ mod BufferedCalls
 mod BufferedWrites
 mod BufferedEnds
 mod WholeChunks
+mod ListingCalls
 mod ChunkedForm
 mod Hands
 mod HexDigits

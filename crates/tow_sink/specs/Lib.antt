@@ -7,3 +7,4 @@ pub mod HeadOnlyFeeding
 pub mod ChunkedFeeding
 pub mod BufferedFeeding
 pub mod Whole
+pub mod Listings

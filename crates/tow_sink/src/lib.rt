@@ -10,6 +10,7 @@ mod finish;
 mod fixed;
 mod head_only;
 pub mod laws;
+mod listing;
 mod plain;
 mod sink;
 #[cfg(test)]
@@ -21,5 +22,6 @@ pub use chunked::Chunked;
 pub use finish::Finish;
 pub use fixed::Fixed;
 pub use head_only::HeadOnly;
+pub use listing::listing_sink;
 pub use plain::Plain;
 pub use sink::StreamSink;

@@ -1,6 +1,6 @@
 //! Feeds that are cut into writes, through pipes of several rooms.
 
-use crate::{Buffered, Chunked, Finish, Fixed, HeadOnly, Plain, StreamSink};
+use crate::{Buffered, Chunked, Finish, Fixed, HeadOnly, Plain, StreamSink, listing_sink};
 use std::alloc::{AllocError, Global};
 use std::process::Abort;
 use std::test::Fail;
@@ -14,7 +14,8 @@ enum Kind {
     HeadOnlyChunked,
     BufferedPlain,
     BufferedHeadOnly,
-    BufferedChunked,
+    /// `Buffered`, `Chunked` and `Plain`, as `listing_sink` makes them.
+    Listing,
     BufferedChunkedBuffered,
     BufferedFixedChunked,
     FixedBufferedChunked,
@@ -101,8 +102,8 @@ fn framed_by(alloc: Global, kind: Kind, content: &[u8], cut: Cut) -> Result<Vec<
             let mut sink = Buffered::new(alloc, HeadOnly::new(Plain::new()))?;
             framed(alloc, &mut sink, content, cut)
         }
-        Kind::BufferedChunked => {
-            let mut sink = Buffered::new(alloc, Chunked::new(Plain::new()))?;
+        Kind::Listing => {
+            let mut sink = listing_sink(alloc)?;
             framed(alloc, &mut sink, content, cut)
         }
         Kind::BufferedChunkedBuffered => {
@@ -116,7 +117,7 @@ fn framed_by(alloc: Global, kind: Kind, content: &[u8], cut: Cut) -> Result<Vec<
             framed(alloc, &mut sink, content, cut)
         }
         Kind::FixedBufferedChunked => {
-            let inner = Buffered::new(alloc, Chunked::new(Plain::new()))?;
+            let inner = listing_sink(alloc)?;
             let mut sink = Fixed::new(inner, len);
             framed(alloc, &mut sink, content, cut)
         }
@@ -190,12 +191,12 @@ const ROWS: &[Row] = &[
     (Kind::BufferedPlain, 0, &[]),
     (Kind::BufferedPlain, 16_385, &[(b"", 16_385)]),
     (Kind::BufferedHeadOnly, 16_385, &[]),
-    (Kind::BufferedChunked, 0, EMPTY),
-    (Kind::BufferedChunked, 1, ONE_BYTE),
-    (Kind::BufferedChunked, 16_383, ONE_BYTE_LESS),
-    (Kind::BufferedChunked, 16_384, ONE_BLOCK),
-    (Kind::BufferedChunked, 16_385, ONE_BYTE_MORE),
-    (Kind::BufferedChunked, 32_939, THREE_BLOCKS),
+    (Kind::Listing, 0, EMPTY),
+    (Kind::Listing, 1, ONE_BYTE),
+    (Kind::Listing, 16_383, ONE_BYTE_LESS),
+    (Kind::Listing, 16_384, ONE_BLOCK),
+    (Kind::Listing, 16_385, ONE_BYTE_MORE),
+    (Kind::Listing, 32_939, THREE_BLOCKS),
     (Kind::BufferedChunkedBuffered, 16_385, ONE_BYTE_MORE),
     (Kind::BufferedFixedChunked, 16_385, ONE_BYTE_MORE),
     (Kind::FixedBufferedChunked, 16_385, ONE_BYTE_MORE),
