@@ -1,10 +1,11 @@
--- A step adds no listeners but those of logs, and chooses no answer unless that is decided.
+-- A step adds no listeners but those of logs, chooses no answer unless that is decided, and names no file.
 use Rattle.std.proofs.Common.{◌≡◌, ℕ, zero, suc, Bool, true, false, List, [], ◌∷◌, ◌++◌, map, if◌then◌else◌, Option, Some, None, option_map, refl, sym, ap, subst, ◌∙◌, append-nil, append_assoc}
 use Rattle.std.proofs.lemmas.List.{map-append}
 use Rattle.tow_model.specs.declared.request.Field.{Field}
 use Rattle.tow_model.specs.declared.request.Request.{Request}
 use Rattle.tow_model.specs.declared.record.Record.{Record}
-use Rattle.tow_model.specs.declared.record.Choice.TheVariants.{Undecided}
+use Rattle.tow_model.specs.declared.record.Choice.{Choice}
+use Rattle.tow_model.specs.declared.record.Choice.TheVariants.{Undecided, Empty}
 use Rattle.tow_model.specs.declared.record.Listener.{Listener}
 use Rattle.tow_model.specs.declared.record.Listener.TheVariants.{Log}
 use Rattle.tow_model.specs.declared.action.Action.{Action}
@@ -21,7 +22,7 @@ use Rattle.tow_exchange.specs.Exchanges.{ExchangeData, after, begun_again}
 use Rattle.tow_exchange.specs.declared.phase.Phase.TheVariants.{Running, Stopped}
 use Rattle.tow_program.specs.declared.instruction.Instruction.{Instruction}
 use Rattle.tow_program.specs.declared.instruction.Instruction.TheVariants.{Ask, Do, Skip}
-use Rattle.tow_advance.specs.Moves.{acted, taken, AddsLogs, IsUnchosen}
+use Rattle.tow_advance.specs.Moves.{acted, taken, AddsLogs, IsNoFile, IsUnchosen, NamesNoFile}
 
 -- LISTENERS
 
@@ -75,12 +76,19 @@ pub held_same : (bindings : Option (List Field)) (x : Record) → Same x (held b
 held_same None x = unchanged x
 held_same (Some bindings) x = record { listeners = refl; choice = refl }
 
+-- an answer without content names no file
+pub empty_is_none : IsNoFile Empty
+empty_is_none path len is = cc
+
+pub same_is_none : (old new : Choice) → new ≡ old → IsNoFile old → IsNoFile new
+same_is_none old new same none path len is = none path len (sym same ∙ is)
+
 -- EFFECTS
 
 -- what a step does to the record
 abbrev pub StepAdds : Record → Step → Type 0
 StepAdds x (Go y) = AddsLogs x.listeners y.listeners × (y.choice ≡ x.choice)
-StepAdds x (Stop y) = AddsLogs x.listeners y.listeners
+StepAdds x (Stop y) = AddsLogs x.listeners y.listeners × IsNoFile y.choice
 
 abbrev pub EffectAdds : Record → Effect → Type 0
 EffectAdds x (Takes step) = StepAdds x step
@@ -91,14 +99,14 @@ going x y same = (([], same.listeners ∙ sym (append-nil x.listeners)), same.ch
 
 allowing : (allowed : Bool) (methods : List Text) (x : Record) → StepAdds x (if allowed then Go x else Stop (not_allowed methods x))
 allowing true methods x = going x x (unchanged x)
-allowing false methods x = adds_none x.listeners
+allowing false methods x = (adds_none x.listeners, empty_is_none)
 
 pub effect_adds : (a : Action) (q : Request) (x : Record) (m : ℕ) → EffectAdds x (effect_of a q x m)
 effect_adds (Set target value) q x m = going x _ (write_same target (value_of value q x m) x)
 effect_adds (Clear target) q x m = going x _ (cleared_same target x)
 effect_adds (Rewrite value) q x m = going x _ (write_same RelativePath (value_of value q x m) x)
-effect_adds (Redirect value) q x m = adds_none x.listeners
-effect_adds (ResponseCode status) q x m = adds_none x.listeners
+effect_adds (Redirect value) q x m = (adds_none x.listeners, empty_is_none)
+effect_adds (ResponseCode status) q x m = (adds_none x.listeners, empty_is_none)
 effect_adds (Header name value replace) q x m =
     let text = value_of value q x m in going x _ (header_same text (with_header replace name text x.fields) x)
 effect_adds (AllowedMethods methods) q x m = allowing _ methods x
@@ -112,10 +120,11 @@ effect_adds Done q x m = tt
 
 -- STEPS
 
--- listeners of logs alone were added, and no answer is chosen unless that is decided
+-- listeners of logs alone were added, no answer is chosen unless that is decided, and no file is named
 pub record Keeps (old new : ExchangeData) : Type 0 where
   pub adds : AddsLogs old.stand.state.listeners new.stand.state.listeners
   pub unchosen : IsUnchosen old → IsUnchosen new
+  pub unfiled : NamesNoFile old → NamesNoFile new
 
 module _ (e : ExchangeData) (is : e.phase ≡ Running) where
   -- it runs, so that it has chosen none
@@ -126,23 +135,33 @@ module _ (e : ExchangeData) (is : e.phase ≡ Running) where
   kept new same = record {
     adds = (([], same.listeners ∙ sym (append-nil e.stand.state.listeners)));
     unchosen = λ unchosen live. same.choice ∙ chosen_none unchosen;
+    unfiled = same_is_none e.stand.state.choice new.stand.state.choice same.choice;
   }
 
 begun_keeps : (left : ℕ) (e : ExchangeData) → e.phase ≡ Running → Keeps e (begun_again left e)
 begun_keeps zero e is =
-    record { adds = adds_none e.stand.state.listeners; unchosen = λ unchosen live. absurd (live refl) }
+    record {
+      adds = adds_none e.stand.state.listeners;
+      unchosen = λ unchosen live. absurd (live refl);
+      unfiled = λ none. empty_is_none;
+    }
 begun_keeps (suc left) e is = kept e is _ (record { listeners = refl; choice = refl })
 
 acted_keeps : (a : Action) (effect : Effect) (next : ℕ) (e : ExchangeData) → e.phase ≡ Running → EffectAdds e.stand.state effect →
     Keeps e (acted a effect next e)
 acted_keeps a (Takes (Go x)) next e is adds =
-    record { adds = adds.0; unchosen = λ unchosen live. adds.1 ∙ chosen_none e is unchosen }
-acted_keeps a (Takes (Stop x)) next e is adds = record { adds = adds; unchosen = λ unchosen live. absurd (live refl) }
+    record {
+      adds = adds.0;
+      unchosen = λ unchosen live. adds.1 ∙ chosen_none e is unchosen;
+      unfiled = same_is_none e.stand.state.choice x.choice adds.1;
+    }
+acted_keeps a (Takes (Stop x)) next e is adds =
+    record { adds = adds.0; unchosen = λ unchosen live. absurd (live refl); unfiled = λ none. adds.1 }
 acted_keeps a (Asks limit) next e is adds = kept e is _ (unchanged e.stand.state)
 acted_keeps a ReadsContent next e is adds = kept e is _ (unchanged e.stand.state)
 acted_keeps a (LooksUp location listing) next e is adds = kept e is _ (unchanged e.stand.state)
 acted_keeps a BeginsAgain next e is adds =
-    let begun = begun_keeps e.restarts_left (after a e) is in record { adds = begun.adds; unchosen = begun.unchosen }
+    let begun = begun_keeps e.restarts_left (after a e) is in record { adds = begun.adds; unchosen = begun.unchosen; unfiled = begun.unfiled }
 acted_keeps a GoesToDefault next e is adds = kept e is _ (unchanged e.stand.state)
 
 pub taken_keeps : (program : List Instruction) (o : Option Instruction) (at : ℕ) (e : ExchangeData) → e.phase ≡ Running →

@@ -15,7 +15,7 @@ use Rattle.tow_program.specs.declared.instruction.Instruction.{Instruction}
 use Rattle.tow_program.specs.declared.instruction.Instruction.TheVariants.{Ask, Do, Skip}
 use Rattle.tow_advance.specs.Moves.{past, acted, taken, left_in, left_of, places_from, walk_from, walk_left, Stepped}
 use Rattle.tow_advance.proofs.Plans.{taken_plan, not_found_plan}
-use Rattle.tow_advance.proofs.Adding.{taken_keeps}
+use Rattle.tow_advance.proofs.Adding.{empty_is_none, taken_keeps}
 
 module _ (program : List Instruction) (e : ExchangeData) (at : ℕ) (is : e.phase ≡ Running) where
   -- what is left at this place
@@ -197,6 +197,7 @@ taken_steps program e at is here =
           (taken_walks program e at is (slice_get program at) refl);
       adds = k.adds;
       unchosen = k.unchosen;
+      unfiled = k.unfiled;
       connection = s.connection;
       number = s.number;
       request = s.request;
@@ -213,6 +214,7 @@ not_found_steps program e is here =
       walks = zero-le;
       adds = ([], sym (append-nil e.stand.state.listeners));
       unchosen = λ unchosen live. absurd (live refl);
+      unfiled = λ none. empty_is_none;
       connection = refl;
       number = refl;
       request = refl;

@@ -16,6 +16,7 @@ use Rattle.tow_program.specs.Skips.{skipped}
 use Rattle.tow_program.proofs.Skipping.{skipped_are_asked}
 use Rattle.tow_advance.specs.Under.{way_at, plan_at, plan_in}
 use Rattle.tow_advance.specs.Moves.{left_in, left_of, places_from, walk_from, walk_left, with_context, taken, PassedOver, Stepped, Halted}
+use Rattle.tow_advance.proofs.Adding.{same_is_none}
 use Rattle.tow_advance.proofs.Nearing.{still, taken_steps}
 
 free_stays : (mark : Mark) → mark ≡ Free → after_step mark ≡ Free
@@ -119,6 +120,7 @@ module _ (program : List Instruction) (old e new : ExchangeData) (p : PassedOver
     walks = (let a = s.walks in let b = p.walks in omega (arith, a, b));
     adds = (s.adds.0, s.adds.1 ∙ ap (λ (x : Record). x.listeners ++ map Log s.adds.0) p.state);
     unchosen = λ unchosen. s.unchosen (λ live. ap (λ (x : Record). x.choice) p.state ∙ unchosen (λ ended. live (p.phase ∙ ended)));
+    unfiled = λ none. s.unfiled (same_is_none old.stand.state.choice e.stand.state.choice (ap (λ (x : Record). x.choice) p.state) none);
     connection = s.connection ∙ p.connection;
     number = s.number ∙ p.number;
     request = s.request ∙ p.request;

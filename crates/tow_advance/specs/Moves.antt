@@ -1,11 +1,13 @@
 -- One instruction of an exchange under way: the exchange that it leaves.
 use Rattle.std.specs.Prelude.{◌≡◌, ◌≢◌, ℕ, suc, ◌+◌, ◌-◌, ◌*◌, ◌<◌, ◌≤◌, min, false, List, [], ◌++◌, map, length, slice_get, if◌then◌else◌, Option, Some, None}
 use Rattle.tow_model.specs.declared.request.Field.{Field}
-use Rattle.tow_model.specs.declared.record.Choice.TheVariants.{Undecided}
+use Rattle.tow_model.specs.declared.record.Choice.{Choice}
+use Rattle.tow_model.specs.declared.record.Choice.TheVariants.{Undecided, File}
 use Rattle.tow_model.specs.declared.record.Listener.{Listener}
 use Rattle.tow_model.specs.declared.record.Listener.TheVariants.{Log}
 use Rattle.tow_model.specs.declared.action.Action.{Action}
 use Rattle.tow_model.specs.declared.predicate.Test.{Test}
+use Rattle.tow_model.specs.Texts.{Text}
 use Rattle.tow_semantics.specs.Predicates.{held, test_of}
 use Rattle.tow_semantics.specs.Steps.{Go, Stop}
 use Rattle.tow_semantics.specs.Effects.{Effect, Takes, Asks, ReadsContent, LooksUp, BeginsAgain, GoesToDefault, effect_of}
@@ -86,6 +88,14 @@ AddsLogs old new = (logs : List ℕ) × (new ≡ old ++ map Log logs)
 abbrev pub IsUnchosen : ExchangeData → Type 0
 IsUnchosen e = e.phase ≢ Stopped → e.stand.state.choice ≡ Undecided
 
+-- no file of the folder, of whatever path and length
+abbrev pub IsNoFile : Choice → Type 0
+IsNoFile choice = (path : Text) (len : ℕ) → choice ≢ File path len
+
+-- Its record names no file as its content. Only a page that is given can name one.
+abbrev pub NamesNoFile : ExchangeData → Type 0
+NamesNoFile e = IsNoFile e.stand.state.choice
+
 -- what a step leaves: less is left to do, the plan and the request stay, and no listener is added but those of logs
 pub record Stepped (program : List Instruction) (old new : ExchangeData) : Type 0 where
   pub plan : plan_in program new ≡ plan_in program old
@@ -94,6 +104,7 @@ pub record Stepped (program : List Instruction) (old new : ExchangeData) : Type 
   pub walks : walk_left program new ≤ walk_left program old
   pub adds : AddsLogs old.stand.state.listeners new.stand.state.listeners
   pub unchosen : IsUnchosen old → IsUnchosen new
+  pub unfiled : NamesNoFile old → NamesNoFile new
   pub connection : new.connection ≡ old.connection
   pub number : new.number ≡ old.number
   pub request : new.request ≡ old.request

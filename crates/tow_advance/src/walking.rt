@@ -5,7 +5,7 @@ ghost use Rattle.tow_model.specs.Dates.{first_undated};
 ghost use Rattle.tow_model.specs.Texts.{Text};
 ghost use Rattle.tow_semantics.specs.Predicates.{AreAmong};
 ghost use Rattle.tow_advance.specs.Knowing.{program_patterns};
-ghost use Rattle.tow_advance.specs.Moves.{AddsLogs, Halted, IsUnchosen, Stepped, walk_left};
+ghost use Rattle.tow_advance.specs.Moves.{AddsLogs, Halted, IsUnchosen, NamesNoFile, Stepped, walk_left};
 ghost use Rattle.tow_advance.specs.Needs.{IsUnderWay, StaysForWorker, need_in};
 ghost use Rattle.tow_advance.specs.Under.{plan_in};
 ghost use Rattle.tow_exchange.specs.Exchanges.{after_test, moved_to};
@@ -23,7 +23,7 @@ use tow_program::Program;
 /// Goes on with an exchange until it needs something, which the role decides with its plan. Its plan stays the same, so
 /// that the steps of a walk may be split between roles in any way. A loop takes no step after a `blocking`. Takes memory
 /// for values, bindings and what actions write; if it is short, the listeners are those that were added so far, and no
-/// answer is decided. Listeners are only added, and logs alone.
+/// answer is decided. Listeners are only added, and logs alone. No file becomes its content, which a page alone can do.
 pub fn advance(
     alloc: Global,
     scratch: &mut Scratch<'_>,
@@ -48,6 +48,7 @@ pub fn advance(
     ensures open { result ≡ Next.NoMemory → exchange.new.phase ≢ Phase.Stopped }
     ensures adds { AddsLogs exchange.old.stand.state.listeners exchange.new.stand.state.listeners }
     ensures unchosen { IsUnchosen exchange.old → IsUnchosen exchange.new }
+    ensures unfiled { NamesNoFile exchange.old → NamesNoFile exchange.new }
     ensures nearer { walk_left program.now exchange.new ≤ walk_left program.now exchange.old }
     ensures connection { exchange.new.connection ≡ exchange.old.connection }
     ensures number { exchange.new.number ≡ exchange.old.number }

@@ -1,8 +1,9 @@
 //! Exchanges that go on under a site.
 
-ghost use Rattle.std.specs.Prelude.{◌≡◌, ◌≢◌, ◌<◌, Bool, ℕ};
+ghost use Rattle.std.specs.Prelude.{◌≡◌, ◌≢◌, ◌<◌, ◌≤◌, Bool, ℕ};
 ghost use Rattle.tow_model.specs.Dates.{first_undated};
 ghost use Rattle.tow_model.specs.Texts.{Text};
+ghost use Rattle.tow_advance.specs.Moves.{AddsLogs, IsUnchosen, NamesNoFile, walk_left};
 ghost use Rattle.tow_advance.specs.Needs.{IsUnderWay, StaysForWorker, need_in};
 ghost use Rattle.tow_advance.specs.Under.{plan_in};
 ghost use Rattle.tow_advance.specs.declared.next.Next as next;
@@ -20,7 +21,8 @@ use tow_pred::Scratch;
 /// Goes on with an exchange under the site until it needs something, which the role decides with its plan. Its plan stays
 /// the same, so that the steps of a walk may be split between roles in any way. A loop takes no step after a `blocking`.
 /// The scratch was made of the site's tests. Takes memory for values, bindings and what actions write; if it is short,
-/// the listeners are those that were added so far.
+/// the listeners are those that were added so far, and no answer is decided. Listeners are only added, and logs alone. No
+/// file becomes its content, which a page alone can do.
 pub fn advance(
     alloc: Global,
     site: &Site,
@@ -43,6 +45,12 @@ pub fn advance(
     ensures stays { StaysForWorker role exchange.old.stand.mark exchange.old exchange.new }
     ensures no_memory { result ≡ Next.NoMemory
         → IsUnderWay (program_of site.now.tree) exchange.old exchange.new }
+    ensures open { result ≡ Next.NoMemory → exchange.new.phase ≢ Phase.Stopped }
+    ensures adds { AddsLogs exchange.old.stand.state.listeners exchange.new.stand.state.listeners }
+    ensures unchosen { IsUnchosen exchange.old → IsUnchosen exchange.new }
+    ensures unfiled { NamesNoFile exchange.old → NamesNoFile exchange.new }
+    ensures nearer { walk_left (program_of site.now.tree) exchange.new
+        ≤ walk_left (program_of site.now.tree) exchange.old }
     ensures connection { exchange.new.connection ≡ exchange.old.connection }
     ensures number { exchange.new.number ≡ exchange.old.number }
     ensures request { exchange.new.request ≡ exchange.old.request }

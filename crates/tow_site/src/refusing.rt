@@ -1,11 +1,11 @@
 //! The faults of texts, with line and column.
 
-ghost use Rattle.std.specs.Prelude.{◌≡◌, ◌<◌, ◌≤◌, length, IfSome};
+ghost use Rattle.std.specs.Prelude.{◌≡◌, ◌<◌, ◌≤◌, length, IfSome, MatchOption};
 ghost use Rattle.tow_language.specs.Fault.{IsFault};
 ghost use Rattle.tow_language.specs.Tokens.{IsTokenFault};
 ghost use Rattle.tow_lex.specs.Faults.{lex_fault};
 ghost use Rattle.tow_fit.specs.Faults.{parse_fault};
-ghost use Rattle.tow_site.specs.Compiled.{IsTreeFault, pattern_fault, refused_number};
+ghost use Rattle.tow_site.specs.Compiled.{IsTreeFault, fault_of, pattern_fault, refused_number};
 
 use crate::fault::Fault;
 use crate::places::fault_at;
@@ -18,7 +18,9 @@ use tow_pred::PatternFault;
 /// The fault of a text that has no tokens.
 pub fn fault_of_tokens(text: &[u8], fault: LexFault) -> Fault
     requires { IfSome (lex_fault fault) (λ f. IsTokenFault text.now f.kind f.place) }
-    ensures { IsTreeFault text.now result }
+    ensures fault { IsTreeFault text.now result }
+    ensures exact { MatchOption (lex_fault fault) (result ≡ Fault.NoMemory)
+        (λ f. result ≡ fault_of text.now f.kind f.place) }
 {
     match fault {
         LexFault::UnclosedQuote(place) => fault_at(text, Kind::UnclosedQuote, place),
@@ -46,7 +48,9 @@ pub fn fault_of_pattern(text: &[u8], places: &[usize], fault: PatternFault) -> F
 pub fn fault_of_tree(text: &[u8], fault: ParseFault) -> Fault
     requires short { length text.now ≤ 65536 }
     requires fault { IfSome (parse_fault fault) (λ f. IsFault text.now f.kind f.place) }
-    ensures { IsTreeFault text.now result }
+    ensures fault { IsTreeFault text.now result }
+    ensures exact { MatchOption (parse_fault fault) (result ≡ Fault.NoMemory)
+        (λ f. result ≡ fault_of text.now f.kind f.place) }
 {
     match fault {
         ParseFault::Unexpected(place) => fault_at(text, Kind::Unexpected, place),

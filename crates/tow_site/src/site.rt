@@ -41,7 +41,7 @@ impl Model for Site {
 impl Site {
     /// The site of a tree with its program, whose patterns were built; none if its statements are too many to be
     /// numbered.
-    pub fn new(
+    pub(crate) fn new(
         tree: Tree,
         program: Program,
         patterns: List<usize>,

@@ -5,6 +5,7 @@ mod compiled;
 mod formats;
 mod limits;
 mod outcomes;
+mod rows;
 
 use crate::{Site, compile};
 use std::alloc::{AllocError, Global};

@@ -6,7 +6,7 @@ use Rattle.tow_advance.specs.Needs.{is_for_worker, for_role, first_need}
 use Rattle.tow_exchange.specs.Exchanges.{ExchangeData}
 use Rattle.tow_advance.specs.Under.{plan_in}
 use Rattle.tow_advance.proofs.Dispatched.{handing, not_stopped, stays_by_step}
-use Rattle.tow_advance.proofs.Adding.{adds_further}
+use Rattle.tow_advance.proofs.Adding.{adds_further, same_is_none}
 use Rattle.tow_advance.proofs.walking.advance.Goals as goal
 
 pub returns-then-not-is_running-clause-need : goal.returns-then-not-is_running-clause-need
@@ -55,6 +55,11 @@ returns-in-Err-clause-unchosen c =
     let halted : Halted c.args.program.now c.loop-exchange.exchange c.step.new.exchange = search rules in
     λ first live. halted.choice ∙ c.loop-exchange.invariant.8 first (λ ended. live (halted.phase ∙ ended))
 
+pub returns-in-Err-clause-unfiled : goal.returns-in-Err-clause-unfiled
+returns-in-Err-clause-unfiled c =
+    let halted : Halted c.args.program.now c.loop-exchange.exchange c.step.new.exchange = search rules in
+    λ none. same_is_none _ _ halted.choice (c.loop-exchange.invariant.10 none)
+
 pub returns-in-Err-clause-nearer : goal.returns-in-Err-clause-nearer
 returns-in-Err-clause-nearer c =
     let halted : Halted c.args.program.now c.loop-exchange.exchange c.step.new.exchange = search rules in
@@ -101,4 +106,5 @@ loop-exchange-preserved c =
       adds_further _ _ _ i.7 stepped.adds,
       λ first. stepped.unchosen (i.8 first),
       omega (arith, walks, near),
+      λ none. stepped.unfiled (i.10 none),
     )

@@ -1,5 +1,5 @@
 use Rattle.std.proofs.Common.{◌≡◌, ◌≤◌}
-use Rattle.tow_advance.specs.Moves.{left_of, walk_left, AddsLogs, IsUnchosen}
+use Rattle.tow_advance.specs.Moves.{left_of, walk_left, AddsLogs, IsUnchosen, NamesNoFile}
 use Rattle.tow_advance.specs.Needs.{StaysForWorker}
 use Rattle.tow_advance.specs.Under.{plan_in}
 use Rattle.tow_advance.proofs.walking.advance.Given as goal
@@ -15,6 +15,7 @@ invariant-loop-exchange l =
     × AddsLogs l.initial.exchange.stand.state.listeners l.exchange.stand.state.listeners
     × (IsUnchosen l.initial.exchange → IsUnchosen l.exchange)
     × (walk_left l.program l.exchange ≤ walk_left l.program l.initial.exchange)
+    × (NamesNoFile l.initial.exchange → NamesNoFile l.exchange)
 
 abbrev pub decreases-loop-exchange : goal.decreases-loop-exchange
 decreases-loop-exchange l = left_of l.program l.exchange
