@@ -15,10 +15,10 @@ use tow_folder::{Folder, Listed, Look, Part};
 use tow_model::Bytes;
 
 /// Why there is no folder under a name.
-#[derive(Clone, Copy, Debug, PartialEq, Eq)]
+#[derive(Clone, Copy, Debug)]
 pub enum NoFolder {
-    /// No directory that may be read has this name.
-    Missing,
+    /// No directory that may be read has this name, and this is what the system said.
+    Missing(io::Error),
     NoMemory,
 }
 
@@ -54,7 +54,7 @@ impl DiskFolder {
                 faults: 0,
             }),
             Err(error) if error.kind() == ErrorKind::OutOfMemory => Err(NoFolder::NoMemory),
-            Err(_) => Err(NoFolder::Missing),
+            Err(error) => Err(NoFolder::Missing(error)),
         }
     }
 

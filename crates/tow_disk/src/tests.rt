@@ -2,6 +2,7 @@
 
 use super::*;
 use std::alloc::{AllocError, Global};
+use std::io::ErrorKind;
 use std::os::unix::fs::symlink;
 use std::path::PathBuf;
 use std::test::Fail;
@@ -172,14 +173,27 @@ fn an_open_file_is_read_on_after_it_is_gone(rt: HostRuntime) -> Result<(), Fail>
     Ok(())
 }
 
+/// What kind of error the system had if there is no such folder.
+fn missing_for(made: Result<DiskFolder, NoFolder>) -> Option<ErrorKind> {
+    match made {
+        Err(NoFolder::Missing(error)) => Some(error.kind()),
+        _ => None,
+    }
+}
+
 #[test]
 fn a_folder_is_a_directory(rt: HostRuntime) -> Result<(), Fail> {
     let dir = filled(rt, "tow_disk.roots")?;
     let site = dir.join(rt.alloc(), "site")?;
     assert!(rt; DiskFolder::new(rt, site.as_str()).is_ok());
-    for part in ["missing", "a.txt", "loop", "nowhere"] {
+    for (part, kind) in [
+        ("missing", ErrorKind::NotFound),
+        ("a.txt", ErrorKind::NotADirectory),
+        ("loop", ErrorKind::FilesystemLoop),
+        ("nowhere", ErrorKind::NotFound),
+    ] {
         let made = DiskFolder::new(rt, site.join(rt.alloc(), part)?.as_str());
-        assert_eq!(rt; made.err(), Some(NoFolder::Missing));
+        assert_eq!(rt; missing_for(made), Some(kind));
     }
     fs::remove_dir_all(&rt, dir.as_path())?;
     Ok(())

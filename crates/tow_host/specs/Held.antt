@@ -6,13 +6,17 @@ use Rattle.tow_link.specs.Data.{SourceData, SinkData, raised}
 use Rattle.tow_link.specs.Counts.{Counts}
 use Rattle.tow_link.specs.declared.joined.Joined.{Joined}
 use Rattle.tow_faults.specs.Faults.{NumberedFaults, faults_for}
+use Rattle.tow_semantics.specs.Files.{Files}
+use Rattle.tow_folder.specs.Folders.{FolderData}
 use Rattle.tow_host.specs.Logs.{LogData}
 use Rattle.tow_host.specs.declared.kept.Kept.{Kept}
 
 -- Of texts: what the source that was handed back last shows, how many sources were handed out, how many back, how often
 -- a text could not be had, by its name, and, where the host tells, each text under its name. Of the streams: whether the host
 -- has them, and what they then show; while they are lent, nothing is said of their data. Then how often each pattern was
--- refused as too large, and, where the host tells, the second of each request by its clocks. Of logs: what those that were
+-- refused as too large, and, where the host tells, the second of each request by its clocks. Of folders: what those that were
+-- handed back last show, how many were handed out, how many back, how often a folder could not be had, by its name, and, where the
+-- host tells, the files of each under its name. Of logs: what those that were
 -- handed back last show, in the order of their numbers, how many logs were handed out, how many back, and how often a log could
 -- not be had, by its number. Then the account of connection 0, where it was handed back.
 pub record Held : Type 0 where
@@ -26,6 +30,11 @@ pub record Held : Type 0 where
   pub output : SinkData
   pub larges : List ℕ → ℕ
   pub moments : Option (ℕ → ℕ → ℕ)
+  pub folders : List FolderData
+  pub folders_handed : ℕ
+  pub folders_returned : ℕ
+  pub folder_faults : Counts
+  pub maps : Option (List (List ℕ × Files))
   pub logs : List LogData
   pub logs_handed : ℕ
   pub logs_returned : ℕ
@@ -36,6 +45,10 @@ pub record Held : Type 0 where
 pub record IsFresh (source : SourceData) : Type 0 where
   pub faults : source.faults ≡ 0
   pub unread : IfSome source.told (λ told. told.read ≡ [])
+
+-- a folder that was just handed out: it has failed for no connection
+pub record IsNewFolder (folder : FolderData) : Type 0 where
+  pub faults : (k : ℕ) → faults_for folder.faults k ≡ 0
 
 -- a log that was just handed out: it has failed for no connection, and has no lines
 pub record IsNewLog (log : LogData) : Type 0 where
@@ -48,6 +61,14 @@ abbrev pub AsksText : Bool → Held → Held → Type 0
 AsksText is_there old new = new ≡ record old {
   handed = if is_there then raised old.handed else old.handed;
   text_faults = new.text_faults;
+}
+
+-- A folder was asked for: where one was handed out, that is counted, and the counts of folders that could not be had may have
+-- changed.
+abbrev pub AsksFolder : Bool → Held → Held → Type 0
+AsksFolder is_there old new = new ≡ record old {
+  folders_handed = if is_there then raised old.folders_handed else old.folders_handed;
+  folder_faults = new.folder_faults;
 }
 
 -- A log was asked for: where one was handed out, that is counted, and the counts of logs that could not be had may have
@@ -80,25 +101,27 @@ input_shown shows streams = shows streams.input
 abbrev pub output_shown : {I O : Type 0} → (O → SinkData) → Joined I O → SinkData
 output_shown shows streams = shows streams.output
 
--- what is held of logs after these were handed back: these, if there are any
-abbrev pub logs_held : {A : Type 0} → List A → List A → List A
-logs_held [] old = old
-logs_held (log ∷ rest) old = log ∷ rest
+-- what is held of folders or of logs after these were handed back: these, if there are any
+abbrev pub parts_held : {A : Type 0} → List A → List A → List A
+parts_held [] old = old
+parts_held (part ∷ rest) old = part ∷ rest
 
--- how many logs were handed back, after these
-abbrev pub logs_counted : {G : Type 0} → List G → ℕ → ℕ
-logs_counted [] count = count
-logs_counted (log ∷ rest) count = min (count + length (log ∷ rest)) (2 ^ 64 - 1)
+-- how many folders or logs were handed back, after these
+abbrev pub parts_counted : {P : Type 0} → List P → ℕ → ℕ
+parts_counted [] count = count
+parts_counted (part ∷ rest) count = min (count + length (part ∷ rest)) (2 ^ 64 - 1)
 
 -- what parts were handed back: each that is there is held from then on, as what it shows
-abbrev pub with_kept : {T I O G : Type 0} → (T → SourceData) → (I → SourceData) → (O → SinkData) → (G → LogData) → Kept T (Joined I O) G → Held → Held
-with_kept text_shows input_shows output_shows log_shows kept old = record old {
+abbrev pub with_kept : {T I O F G : Type 0} → (T → SourceData) → (I → SourceData) → (O → SinkData) → (F → FolderData) → (G → LogData) → Kept T (Joined I O) F G → Held → Held
+with_kept text_shows input_shows output_shows folder_shows log_shows kept old = record old {
   text = option_map_or text_shows kept.text old.text;
   returned = if is_some kept.text then raised old.returned else old.returned;
   is_home = is_some kept.streams || old.is_home;
   input = option_map_or (input_shown input_shows) kept.streams old.input;
   output = option_map_or (output_shown output_shows) kept.streams old.output;
-  logs = logs_held (map log_shows kept.logs.items) old.logs;
-  logs_returned = logs_counted kept.logs.items old.logs_returned;
+  folders = parts_held (map folder_shows kept.folders.items) old.folders;
+  folders_returned = parts_counted kept.folders.items old.folders_returned;
+  logs = parts_held (map log_shows kept.logs.items) old.logs;
+  logs_returned = parts_counted kept.logs.items old.logs_returned;
   account = option_or kept.account old.account;
 }

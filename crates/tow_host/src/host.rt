@@ -6,12 +6,14 @@ ghost use Rattle.std.specs.Option.{ForSome};
 ghost use Rattle.tow_link.specs.Data.{Rose};
 ghost use Rattle.tow_link.specs.Counts.{count_at, KeepsOthers};
 ghost use Rattle.tow_faults.specs.Faults.{KeepsOtherFaults, faults_for};
-ghost use Rattle.tow_host.specs.Held.{Held, AsksLog, AsksText, IsFresh, IsNewLog, Lends, with_kept};
+ghost use Rattle.tow_host.specs.Held.{Held, AsksFolder, AsksLog, AsksText, IsFresh, IsNewFolder, IsNewLog, Lends, with_kept};
+ghost use Rattle.tow_host.specs.Maps.{ShowsMap};
 ghost use Rattle.tow_host.specs.Moments.{clock_table};
 ghost use Rattle.tow_host.specs.Texts.{ShowsText};
 ghost use Rattle.tow_model.specs.declared.limits.TheConstants.{FIRST_UNDATED};
 
 use crate::{Clock, Kept, LogSink};
+use tow_folder::Folder;
 use tow_link::{Joined, Maker, Sink, Source};
 
 /// Why a host did not give what it was asked for.
@@ -33,6 +35,8 @@ pub trait Host: Maker {
 
     type Output: Sink + Drop;
 
+    type Folder: Folder + Drop;
+
     type Clock: Clock + Drop;
 
     type Log: LogSink + Drop;
@@ -53,6 +57,20 @@ pub trait Host: Maker {
         ensures others { KeepsOthers (held self.old).text_faults (held self.new).text_faults
             name.now }
         ensures held { AsksText (is_ok result) (held self.old) (held self.new) };
+
+    /// The folder of this name. It has not failed yet. A host that tells fails where it has no such folder.
+    fn folder(&mut self, dir: &str) -> Result<Self::Folder, HostFault>
+        ensures fresh { IfOk result (λ folder. IsNewFolder (Self.Folder.shows folder)) }
+        ensures named { IfOk result (λ folder. ShowsMap (held self.old).maps dir.now
+            (Self.Folder.shows folder)) }
+        ensures failed { result ≡ Err HostFault.Failed
+            → Rose (count_at (held self.old).folder_faults dir.now)
+            (count_at (held self.new).folder_faults dir.now) }
+        ensures later { count_at (held self.old).folder_faults dir.now ≤ count_at
+            (held self.new).folder_faults dir.now }
+        ensures others { KeepsOthers (held self.old).folder_faults (held self.new).folder_faults
+            dir.now }
+        ensures held { AsksFolder (is_ok result) (held self.old) (held self.new) };
 
     /// A clock: of this one moment, in seconds since 1970 and before the year 10000, or that of the host. Takes no
     /// memory.
@@ -81,10 +99,13 @@ pub trait Host: Maker {
         ensures held { Lends (held self.old) (held self.new) };
 
     /// Takes back what is there of the parts, and holds them. Takes no memory.
-    fn take_back(&mut self, kept: Kept<Self::Text, Joined<Self::Input, Self::Output>, Self::Log>)
+    fn take_back(
+        &mut self,
+        kept: Kept<Self::Text, Joined<Self::Input, Self::Output>, Self::Folder, Self::Log>,
+    )
         ensures held { held self.new
-            ≡ with_kept Self.Text.shows Self.Input.shows Self.Output.shows Self.Log.shows kept
-            (held self.old) };
+            ≡ with_kept Self.Text.shows Self.Input.shows Self.Output.shows Self.Folder.shows
+            Self.Log.shows kept (held self.old) };
 
     /// Making a pattern changes the counts of large patterns alone, which are those of the maker.
     ghost stays_held: { (old new : Self) → Self.stays old new

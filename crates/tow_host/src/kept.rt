@@ -2,15 +2,17 @@
 
 ghost use Rattle.std.specs.Prelude.{◌≡◌};
 ghost use Rattle.std.specs.Option.{option_or};
-ghost use Rattle.tow_host.specs.Held.{logs_counted, logs_held};
+ghost use Rattle.tow_host.specs.Held.{parts_counted, parts_held};
 
 use tow_model::Account;
 
 /// What is handed back to a host. A part that is not there leaves what the host holds.
 #[derive(Drop)]
-pub struct Kept<T: Drop, J: Drop, G: Drop> {
+pub struct Kept<T: Drop, J: Drop, F: Drop, G: Drop> {
     pub text: Option<T>,
     pub streams: Option<J>,
+    /// None at all leaves those that the host holds.
+    pub folders: Vec<F>,
     /// In the order of their numbers, from 0; none at all leaves those that the host holds.
     pub logs: Vec<G>,
     /// The account of connection 0, where a command answers just one.
@@ -26,18 +28,18 @@ pub fn hold_part<P: Drop>(held: &mut Option<P>, given: Option<P>)
     }
 }
 
-/// Holds the logs that were handed back, if there are any. Takes no memory.
-pub fn hold_logs<G: Drop>(held: &mut Vec<G>, given: Vec<G>)
-    ensures { held.new.items ≡ logs_held given.items held.old.items }
+/// Holds the parts of one kind that were handed back, if there are any. Takes no memory.
+pub fn hold_parts<P: Drop>(held: &mut Vec<P>, given: Vec<P>)
+    ensures { held.new.items ≡ parts_held given.items held.old.items }
 {
     if !given.is_empty() {
         *held = given;
     }
 }
 
-/// How many logs were handed back, after these. The count stands still at its last value.
-pub fn count_logs<G>(returned: u64, given: &Vec<G>) -> u64
-    ensures { result ≡ logs_counted given.now.items returned }
+/// How many parts of one kind were handed back, after these. The count stands still at its last value.
+pub fn count_parts<P>(returned: u64, given: &Vec<P>) -> u64
+    ensures { result ≡ parts_counted given.now.items returned }
 {
     if given.is_empty() {
         return returned;

@@ -1,23 +1,24 @@
-//! A host in memory: its texts, its streams, its moments and what fails are given, and contracts see all of them.
+//! A host in memory: its texts, its folders, its streams, its moments and what fails are given, and contracts see all of them.
 
-ghost use Rattle.std.specs.Prelude.{◌≡◌, ◌≤◌, [], Some, None, true, IfOk, nat_lt, option_copied, option_map, slice_get, if◌then◌else◌};
+ghost use Rattle.std.specs.Prelude.{◌≡◌, ◌≤◌, [], Some, None, true, IfOk, map, nat_lt, option_copied, option_map, slice_get, if◌then◌else◌};
 ghost use Rattle.tow_link.specs.Data.{Rose};
 ghost use Rattle.tow_link.specs.Counts.{count_at, own_counts, KeepsOthers};
 ghost use Rattle.tow_faults.specs.Faults.{KeepsOtherFaults, faults_for};
 ghost use Rattle.tow_host.specs.Held.{no_source, with_kept};
 ghost use Rattle.tow_host.specs.Logs.{memory_log, refused_faults, times_among};
-ghost use Rattle.tow_host.specs.Memory.{memory_held};
+ghost use Rattle.tow_host.specs.Memory.{folder_seen, memory_held};
 
-use crate::kept::{count_logs, hold_logs, hold_part};
-use crate::{Host, HostFault, Kept, MemoryClock, MemoryLog, MemoryTexts};
+use crate::kept::{count_parts, hold_part, hold_parts};
+use crate::{Host, HostFault, Kept, MemoryClock, MemoryFolders, MemoryLog, MemoryTexts};
 use std::alloc::{AllocError, Global};
 use std::marker::Model;
+use tow_folder::{Folder, MemoryFolder};
 use tow_link::{
     CallNumbers, Joined, KeyCounts, Made, Maker, MemoryMaker, MemorySink, MemorySource,
 };
 use tow_model::{Account, Line};
 
-/// A host in memory, which tells its texts, its moments and the lines of its logs.
+/// A host in memory, which tells its texts, the files of its folders, its moments and the lines of its logs.
 #[derive(Drop)]
 pub struct MemoryHost {
     texts: MemoryTexts,
@@ -29,6 +30,12 @@ pub struct MemoryHost {
     returned: u64,
     streams: Option<Joined<MemorySource, MemorySink>>,
     maker: MemoryMaker,
+    maps: MemoryFolders,
+    failing_folders: CallNumbers,
+    folder_faults: KeyCounts,
+    folders: Vec<MemoryFolder>,
+    folders_handed: u64,
+    folders_returned: u64,
     failing_logs: CallNumbers,
     // the puts that fail, of each log by itself
     failing_puts: Vec<u64>,
@@ -41,10 +48,10 @@ pub struct MemoryHost {
 }
 
 impl Model for MemoryHost {
-    ghost use Rattle.std.specs.Prelude.{◌≡◌, is_some, nat_lt};
+    ghost use Rattle.std.specs.Prelude.{◌≡◌, is_some, map, nat_lt};
     ghost use Rattle.std.specs.Option.{option_map_or};
     ghost use Rattle.tow_host.specs.Held.{no_source, no_sink, input_shown, output_shown};
-    ghost use Rattle.tow_host.specs.Memory.{MemoryHostData};
+    ghost use Rattle.tow_host.specs.Memory.{MemoryHostData, folder_seen};
 
     ghost Value = { MemoryHostData };
 
@@ -59,6 +66,11 @@ impl Model for MemoryHost {
       output = option_map_or (output_shown (λ output. output)) host.streams no_sink;
       maker = host.maker;
       moments = host.clock;
+      folders = map folder_seen host.folders.items;
+      folders_handed = host.folders_handed;
+      folders_returned = host.folders_returned;
+      folder_faults = host.folder_faults;
+      maps = host.maps;
       logs = host.logs.items;
       logs_handed = host.logs_handed;
       logs_returned = host.logs_returned;
@@ -70,7 +82,7 @@ impl Model for MemoryHost {
 }
 
 impl MemoryHost {
-    /// A host of these parts. The calls of `text` of these numbers, from 0, fail, and none of `log`.
+    /// A host of these parts, which has no folders. The calls of `text` of these numbers, from 0, fail, and none of `log`.
     pub fn new(
         alloc: Global,
         texts: MemoryTexts,
@@ -89,6 +101,11 @@ impl MemoryHost {
           output = streams.output;
           maker = own_counts [];
           moments = clock;
+          folders = [];
+          folders_handed = 0;
+          folders_returned = 0;
+          folder_faults = [];
+          maps = [];
           logs = [];
           logs_handed = 0;
           logs_returned = 0;
@@ -106,6 +123,12 @@ impl MemoryHost {
             returned: 0,
             streams: Some(streams),
             maker: MemoryMaker::new(KeyCounts::new(alloc)),
+            maps: MemoryFolders::new(Vec::new(alloc)),
+            failing_folders: CallNumbers::new(Vec::new(alloc)),
+            folder_faults: KeyCounts::new(alloc),
+            folders: Vec::new(alloc),
+            folders_handed: 0,
+            folders_returned: 0,
             failing_logs: CallNumbers::new(Vec::new(alloc)),
             failing_puts: Vec::new(alloc),
             logs: Vec::new(alloc),
@@ -121,6 +144,17 @@ impl MemoryHost {
         ensures { result ≡ record self { maker = maker } }
     {
         MemoryHost { maker, ..self }
+    }
+
+    /// The same host with these folders, whose calls of `folder` of these numbers, from 0, fail.
+    pub fn with_folders(self, folders: MemoryFolders, failing: Vec<u64>) -> Self
+        ensures { result ≡ record self { maps = folders } }
+    {
+        MemoryHost {
+            maps: folders,
+            failing_folders: CallNumbers::new(failing),
+            ..self
+        }
     }
 
     /// The same host, of which the calls of `log` of these numbers fail, and of each of its logs the
@@ -176,6 +210,36 @@ impl MemoryHost {
         ensures { result ≡ count_at (own_counts self.now.text_faults) name.now }
     {
         self.faults.at(name.as_bytes())
+    }
+}
+
+impl MemoryHost {
+    /// The folders that were handed back last.
+    pub fn folders(&self) -> &[MemoryFolder]
+        ensures { map folder_seen result.now ≡ self.now.folders }
+    {
+        &self.folders
+    }
+
+    /// How many folders were handed out.
+    pub fn folders_handed(&self) -> u64
+        ensures { result ≡ self.now.folders_handed }
+    {
+        self.folders_handed
+    }
+
+    /// How many folders were handed back.
+    pub fn folders_returned(&self) -> u64
+        ensures { result ≡ self.now.folders_returned }
+    {
+        self.folders_returned
+    }
+
+    /// How many calls of `folder` with this name have failed.
+    pub fn folder_faults_of(&self, dir: &str) -> u64
+        ensures { result ≡ count_at (own_counts self.now.folder_faults) dir.now }
+    {
+        self.folder_faults.at(dir.as_bytes())
     }
 }
 
@@ -252,6 +316,8 @@ impl Host for MemoryHost {
 
     type Output = MemorySink;
 
+    type Folder = MemoryFolder;
+
     type Clock = MemoryClock;
 
     type Log = MemoryLog;
@@ -271,6 +337,21 @@ impl Host for MemoryHost {
                 Ok(source)
             }
             Ok(None) => Err(failed(&mut self.faults, name)),
+            Err(_) => Err(HostFault::NoMemory),
+        }
+    }
+
+    #[tactic(auto, using(tow_link::proofs::Raising::keeps_all))]
+    fn folder(&mut self, dir: &str) -> Result<MemoryFolder, HostFault> {
+        if self.failing_folders.next_is_listed() {
+            return Err(failed(&mut self.folder_faults, dir));
+        }
+        match self.maps.open(dir) {
+            Ok(Some(folder)) => {
+                self.folders_handed = self.folders_handed.saturating_add(1);
+                Ok(folder)
+            }
+            Ok(None) => Err(failed(&mut self.folder_faults, dir)),
             Err(_) => Err(HostFault::NoMemory),
         }
     }
@@ -299,14 +380,19 @@ impl Host for MemoryHost {
         self.streams.take().unwrap()
     }
 
-    fn take_back(&mut self, kept: Kept<MemorySource, Joined<MemorySource, MemorySink>, MemoryLog>)
+    #[tactic(auto, using(crate::proofs::Holding::shows_held, crate::proofs::Holding::shows_seen))]
+    fn take_back(
+        &mut self,
+        kept: Kept<MemorySource, Joined<MemorySource, MemorySink>, MemoryFolder, MemoryLog>,
+    )
         ensures held { memory_held self.new
-            ≡ with_kept (λ text. text) (λ input. input) (λ output. output) memory_log kept
-            (memory_held self.old) }
+            ≡ with_kept (λ text. text) (λ input. input) (λ output. output)
+            ⟦<MemoryFolder as Folder>⟧.shows memory_log kept (memory_held self.old) }
     {
         let Kept {
             text,
             streams,
+            folders,
             logs,
             account,
         } = kept;
@@ -315,8 +401,10 @@ impl Host for MemoryHost {
         }
         hold_part(&mut self.kept_text, text);
         hold_part(&mut self.streams, streams);
-        self.logs_returned = count_logs(self.logs_returned, &logs);
-        hold_logs(&mut self.logs, logs);
+        self.folders_returned = count_parts(self.folders_returned, &folders);
+        hold_parts(&mut self.folders, folders);
+        self.logs_returned = count_parts(self.logs_returned, &logs);
+        hold_parts(&mut self.logs, logs);
         hold_part(&mut self.account, account);
     }
 

@@ -7,11 +7,12 @@ ghost use Rattle.tow_model.specs.declared.limits.TheConstants.{FIRST_UNDATED};
 use super::*;
 use std::alloc::{AllocError, Global};
 use std::test::Fail;
+use tow_folder::{FailingCalls, Folder, Look, MemoryFile};
 use tow_link::{
     Joined, KeyCounts, Made, Maker, MemoryMaker, MemorySink, MemorySource, Whole, read_whole,
     write_all,
 };
-use tow_model::{Account, End, List};
+use tow_model::{Account, Bytes, End, List};
 
 fn source(alloc: Global, bytes: &[u8]) -> Result<MemorySource, AllocError> {
     Ok(MemorySource::new(bytes.to_vec(alloc)?, Vec::new(alloc)))
@@ -65,6 +66,7 @@ fn text_of<H: Host>(alloc: Global, host: &mut H, name: &str) -> Result<Vec<u8>, 
     host.take_back(Kept {
         text: Some(text),
         streams: None,
+        folders: Vec::new(alloc),
         logs: Vec::new(alloc),
         account: None,
     });
@@ -106,6 +108,7 @@ fn echo<H: Host>(alloc: Global, host: &mut H)
     host.take_back(Kept {
         text: None,
         streams: Some(streams),
+        folders: Vec::new(alloc),
         logs: Vec::new(alloc),
         account: None,
     });
@@ -240,6 +243,7 @@ fn hand_back<H: Host>(alloc: Global, host: &mut H, logs: Vec<H::Log>, exchanges:
     host.take_back(Kept {
         text: None,
         streams: None,
+        folders: Vec::new(alloc),
         logs,
         account: Some(Account {
             end: End::Done,
@@ -375,5 +379,90 @@ fn parts_that_are_not_there_leave_what_is_held(rt: HostRuntime) -> Result<(), Fa
     let (lines, _refused, counts) = logging(rt.alloc(), true)?;
     assert_eq!(rt; lines.as_slice(), LOGGED);
     assert_eq!(rt; counts, [2, 2, 4, 3, 0]);
+    Ok(())
+}
+
+/// A folder of one file at `/f` or at another path, under a name, of which these looks fail.
+fn named_folder(
+    alloc: Global,
+    (name, path, bytes): (&str, &[u8], &[u8]),
+    looks: &[u64],
+) -> Result<NamedFolder, AllocError> {
+    let mut files = Vec::new(alloc);
+    files.push(MemoryFile {
+        path: Bytes::from_slice(alloc, path)?,
+        second: 0,
+        bytes: Bytes::from_slice(alloc, bytes)?,
+    })?;
+    Ok(NamedFolder {
+        name: String::from_str(alloc, name)?,
+        files,
+        failing: FailingCalls {
+            look: looks.to_vec(alloc)?,
+            read_at: Vec::new(alloc),
+            names: Vec::new(alloc),
+        },
+    })
+}
+
+/// Folders of one file each: two of the name `a`, `b`, whose first look fails, and `x`, whose path
+/// is none of a folder.
+fn named_folders(alloc: Global) -> Result<MemoryFolders, AllocError> {
+    let mut folders = Vec::new(alloc);
+    folders.push(named_folder(alloc, ("a", b"/f", b"one"), &[])?)?;
+    folders.push(named_folder(alloc, ("b", b"/f", b"two"), &[0])?)?;
+    folders.push(named_folder(alloc, ("a", b"/f", b"other"), &[])?)?;
+    folders.push(named_folder(alloc, ("x", b"f", b"none"), &[])?)?;
+    Ok(MemoryFolders::new(folders))
+}
+
+/// What a folder of this name finds at `/f`, if the host gives one. It is handed back.
+#[tactic(auto, using(crate::proofs::TestPaths::file))]
+fn look_into<H: Host>(alloc: Global, host: &mut H, dir: &str) -> Result<Option<Look>, AllocError> {
+    let Ok(mut folder) = host.folder(dir) else {
+        return Ok(None);
+    };
+    let look = folder.look(7, b"/f");
+    let mut folders = Vec::new(alloc);
+    folders.push(folder)?;
+    host.take_back(Kept {
+        text: None,
+        streams: None,
+        folders,
+        logs: Vec::new(alloc),
+        account: None,
+    });
+    Ok(Some(look))
+}
+
+/// A host of the folders above, whose second call of `folder` fails, after these were looked into,
+/// and what was found.
+fn looked(alloc: Global, dirs: &[&str]) -> Result<(MemoryHost, Vec<Option<Look>>), AllocError> {
+    let mut host = host(alloc)?.with_folders(named_folders(alloc)?, [1].to_vec(alloc)?);
+    let mut found = Vec::new(alloc);
+    for dir in dirs {
+        found.push(look_into(alloc, &mut host, dir)?)?;
+    }
+    Ok((host, found))
+}
+
+#[test]
+fn a_folder_comes_by_its_name(rt: HostRuntime) -> Result<(), Fail> {
+    let (host, found) = looked(rt.alloc(), &["a", "b", "c", "x", "b"])?;
+    let file = Look::File { len: 3, second: 0 };
+    assert_eq!(rt;
+        found.as_slice(),
+        [Some(file), None, None, None, Some(Look::Failed)].as_slice()
+    );
+    let faults = [
+        host.folder_faults_of("a"),
+        host.folder_faults_of("b"),
+        host.folder_faults_of("c"),
+        host.folder_faults_of("x"),
+    ];
+    assert_eq!(rt; faults, [0, 1, 1, 1]);
+    assert_eq!(rt; [host.folders_handed(), host.folders_returned()], [2, 2]);
+    let last = host.folders().first().ok_or("back")?;
+    assert_eq!(rt; last.failed(), [7].as_slice());
     Ok(())
 }

@@ -1,4 +1,5 @@
 pub mod Appending
+pub mod Counting
 pub mod Moving
 pub mod Raising
 pub mod Refusing

@@ -1,9 +1,9 @@
-ghost use Rattle.std.specs.Prelude.{◌≡◌, ◌≢◌, ℕ, ◌≤◌, IsNone, IsSome, List, ⊤};
+ghost use Rattle.std.specs.Prelude.{◌≡◌, ◌≢◌, ℕ, ◌≤◌, IsSome, List, ⊤};
 ghost use Rattle.tow_pattern.specs.Patterns.{IsGoodPattern};
 ghost use Rattle.tow_link.specs.Counts.{count_at};
 ghost use Rattle.tow_link.specs.Data.{Rose};
 ghost use Rattle.tow_link.specs.Entries.{entry_at};
-ghost use Rattle.tow_link.specs.Making.{IfBuilt, IsRegexOf};
+ghost use Rattle.tow_link.specs.Making.{IfBuilt, IsRegexOf, counts_after};
 
 use crate::{KeyCounts, Made, Maker, PackMaker};
 use std::alloc::Global;
@@ -57,8 +57,7 @@ impl Maker for MemoryMaker {
         ensures later { (p : List ℕ) → count_at self.old p ≤ count_at self.new p }
         ensures only { result ≢ Made.Large → count_at self.new ≡ count_at self.old }
         ensures listed { IsSome (entry_at self.old.named pattern.now) → result ≡ Made.Large }
-        ensures unlisted { IsNone (entry_at self.old.named pattern.now)
-            → self.new.named ≡ self.old.named }
+        ensures counted { self.new ≡ counts_after result pattern.now self.old }
     {
         if self.larges.raise_known(pattern) {
             return Made::Large;

@@ -1,5 +1,7 @@
-ghost use Rattle.std.specs.Prelude.{◌≡◌, ◌≤◌, ⊤};
-ghost use Rattle.tow_link.specs.Data.{raised};
+ghost use Rattle.std.specs.Prelude.{◌≡◌, ◌≢◌, ◌≤◌, ⊤};
+ghost use Rattle.tow_pattern.specs.Patterns.{IsGoodPattern};
+ghost use Rattle.tow_link.specs.Data.{Rose, raised};
+ghost use Rattle.tow_link.specs.Making.{IfBuilt, IsRegexOf, count_after};
 
 use crate::{Made, Maker};
 use regex::Error;
@@ -52,7 +54,15 @@ impl Maker for PackMaker {
 
     ghost stays = { λ old new. ⊤ };
 
-    fn make(&mut self, alloc: Global, pattern: &[u8]) -> Made {
+    fn make(&mut self, alloc: Global, pattern: &[u8]) -> Made
+        ensures built { IfBuilt result (IsRegexOf pattern.now) }
+        ensures good { IfBuilt result (λ _. IsGoodPattern pattern.now) }
+        ensures syntax { result ≡ Made.Syntax → ¬ (IsGoodPattern pattern.now) }
+        ensures large { result ≡ Made.Large → Rose self.old self.new }
+        ensures later { self.old ≤ self.new }
+        ensures only { result ≢ Made.Large → self.new ≡ self.old }
+        ensures counted { self.new ≡ count_after result self.old }
+    {
         let Ok(text) = str::from_utf8(pattern) else {
             return Made::Syntax;
         };

@@ -9,6 +9,8 @@ use std::io::Error;
 pub enum Task<'a> {
     /// To read the text of this name.
     Text(&'a str),
+    /// To give the folder of this name.
+    Folder(&'a str),
     Input,
     Output,
 }
@@ -24,6 +26,7 @@ impl Display for Task<'_> {
     fn fmt<W: fmt::Write>(&self, formatter: &mut Formatter<W>) -> fmt::Result {
         match self {
             Task::Text(name) => write!(formatter, "cannot read the handlers text '{name}'"),
+            Task::Folder(name) => write!(formatter, "cannot read the folder '{name}'"),
             Task::Input => formatter.write_str("cannot read the standard input"),
             Task::Output => formatter.write_str("cannot write to the standard output"),
         }

@@ -1,4 +1,4 @@
-//! The machine as a host: its standard streams, its text files and its log files.
+//! The machine as a host: its standard streams, its text files, its folders and its log files.
 
 ghost use Rattle.std.specs.Prelude.{◌≡◌, true};
 ghost use Rattle.tow_host.specs.Held.{with_kept};
@@ -13,11 +13,14 @@ use std::alloc::Global;
 use std::fs::File;
 use std::io::{Error, Stdin, Stdout};
 use std::rt::HostRuntime;
-use tow_host::{Host, HostFault, Kept, LogSink, count_logs, hold_logs, hold_part};
+use tow_disk::{DiskFolder, NoFolder};
+use tow_folder::Folder;
+use tow_host::{Host, HostFault, Kept, LogSink, count_parts, hold_part, hold_parts};
 use tow_link::{Joined, Made, Maker, PackMaker, Sink, Source};
 use tow_model::Account;
 
-/// The machine, whose one counter of faults stands for each name of a text. It never refuses a log.
+/// The machine, one counter of which stands for the faults of each name of a text, and another for those of each name of a
+/// folder. It never refuses a log.
 #[derive(Drop)]
 pub struct SystemHost {
     rt: HostRuntime,
@@ -27,6 +30,10 @@ pub struct SystemHost {
     streams: Option<Joined<Reading<Stdin>, Writing<Stdout>>>,
     kept_text: Option<FileText>,
     maker: PackMaker,
+    folders: Vec<DiskFolder>,
+    folders_handed: u64,
+    folders_returned: u64,
+    folder_faults: u64,
     logs: Vec<SystemLog>,
     logs_handed: u64,
     logs_returned: u64,
@@ -35,6 +42,9 @@ pub struct SystemHost {
     text_name: Option<String>,
     // what the system said, if that text could not be had
     text_reason: Option<Error>,
+    // the same of the folder that was asked for last
+    folder_name: Option<String>,
+    folder_reason: Option<Error>,
 }
 
 impl SystemHost {
@@ -52,12 +62,18 @@ impl SystemHost {
             streams: Some(Joined { input, output }),
             kept_text: None,
             maker: PackMaker::new(),
+            folders: Vec::new(rt.alloc()),
+            folders_handed: 0,
+            folders_returned: 0,
+            folder_faults: 0,
             logs: Vec::new(rt.alloc()),
             logs_handed: 0,
             logs_returned: 0,
             account: None,
             text_name: None,
             text_reason: None,
+            folder_name: None,
+            folder_reason: None,
         }
     }
 
@@ -71,13 +87,17 @@ impl SystemHost {
 
     /// That the text that was asked for last could not be had or read, and why.
     pub fn text_failure(&self) -> Failure<'_> {
-        let name = match &self.text_name {
-            Some(name) => name.as_str(),
-            None => "",
-        };
         Failure {
-            task: Task::Text(name),
+            task: Task::Text(name_or_empty(&self.text_name)),
             reason: self.text_reason.or(self.read_reason()),
+        }
+    }
+
+    /// That the folder that was asked for last could not be had, and why.
+    pub fn folder_failure(&self) -> Failure<'_> {
+        Failure {
+            task: Task::Folder(name_or_empty(&self.folder_name)),
+            reason: self.folder_reason,
         }
     }
 
@@ -105,6 +125,14 @@ impl SystemHost {
                 reason: written,
             },
         }
+    }
+}
+
+/// The name, or an empty one if there was no memory to keep it.
+fn name_or_empty(name: &Option<String>) -> &str {
+    match name {
+        Some(name) => name.as_str(),
+        None => "",
     }
 }
 
@@ -136,14 +164,17 @@ impl Host for SystemHost {
 
     type Output = Writing<Stdout>;
 
+    type Folder = DiskFolder;
+
     type Clock = SystemClock;
 
     type Log = SystemLog;
 
     ghost held = { λ host. machine_held ⟦<FileText as Source>⟧.shows ⟦<Reading<Stdin> as Source>⟧.shows
-        ⟦<Writing<Stdout> as Sink>⟧.shows ⟦<SystemLog as LogSink>⟧.shows host.kept_text host.handed
-        host.returned host.faults host.streams host.maker host.logs.items host.logs_handed
-        host.logs_returned host.account };
+        ⟦<Writing<Stdout> as Sink>⟧.shows ⟦<DiskFolder as Folder>⟧.shows ⟦<SystemLog as LogSink>⟧.shows
+        host.kept_text host.handed host.returned host.faults host.streams host.maker
+        host.folders.items host.folders_handed host.folders_returned host.folder_faults
+        host.logs.items host.logs_handed host.logs_returned host.account };
 
     fn text(&mut self, name: &str) -> Result<FileText, HostFault> {
         self.text_name = String::from_str(self.rt.alloc(), name).ok();
@@ -158,6 +189,24 @@ impl Host for SystemHost {
                 self.faults = self.faults.saturating_add(1);
                 Err(HostFault::Failed)
             }
+        }
+    }
+
+    #[tactic(auto, using(crate::proofs::Opening::is_new))]
+    fn folder(&mut self, dir: &str) -> Result<DiskFolder, HostFault> {
+        self.folder_name = String::from_str(self.rt.alloc(), dir).ok();
+        self.folder_reason = None;
+        match DiskFolder::new(self.rt, dir) {
+            Ok(folder) => {
+                self.folders_handed = self.folders_handed.saturating_add(1);
+                Ok(folder)
+            }
+            Err(NoFolder::Missing(error)) => {
+                self.folder_reason = Some(error);
+                self.folder_faults = self.folder_faults.saturating_add(1);
+                Err(HostFault::Failed)
+            }
+            Err(NoFolder::NoMemory) => Err(HostFault::NoMemory),
         }
     }
 
@@ -177,16 +226,17 @@ impl Host for SystemHost {
     #[tactic(auto, using(tow_host::proofs::Holding::shows_held))]
     fn take_back(
         &mut self,
-        kept: Kept<FileText, Joined<Reading<Stdin>, Writing<Stdout>>, SystemLog>,
+        kept: Kept<FileText, Joined<Reading<Stdin>, Writing<Stdout>>, DiskFolder, SystemLog>,
     )
         ensures held { ⟦<SystemHost as Host>⟧.held self.new
             ≡ with_kept ⟦<FileText as Source>⟧.shows ⟦<Reading<Stdin> as Source>⟧.shows
-            ⟦<Writing<Stdout> as Sink>⟧.shows ⟦<SystemLog as LogSink>⟧.shows kept
-            (⟦<SystemHost as Host>⟧.held self.old) }
+            ⟦<Writing<Stdout> as Sink>⟧.shows ⟦<DiskFolder as Folder>⟧.shows
+            ⟦<SystemLog as LogSink>⟧.shows kept (⟦<SystemHost as Host>⟧.held self.old) }
     {
         let Kept {
             text,
             streams,
+            folders,
             logs,
             account,
         } = kept;
@@ -195,14 +245,17 @@ impl Host for SystemHost {
         }
         hold_part(&mut self.kept_text, text);
         hold_part(&mut self.streams, streams);
-        self.logs_returned = count_logs(self.logs_returned, &logs);
-        hold_logs(&mut self.logs, logs);
+        self.folders_returned = count_parts(self.folders_returned, &folders);
+        hold_parts(&mut self.folders, folders);
+        self.logs_returned = count_parts(self.logs_returned, &logs);
+        hold_parts(&mut self.logs, logs);
         hold_part(&mut self.account, account);
     }
 
     ghost stays_held = { λ old new stays. ap
         (λ (host : SystemHost). machine_held ⟦<FileText as Source>⟧.shows ⟦<Reading<Stdin> as Source>⟧.shows
-        ⟦<Writing<Stdout> as Sink>⟧.shows ⟦<SystemLog as LogSink>⟧.shows host.kept_text host.handed
-        host.returned host.faults host.streams host.maker host.logs.items host.logs_handed
-        host.logs_returned host.account) stays };
+        ⟦<Writing<Stdout> as Sink>⟧.shows ⟦<DiskFolder as Folder>⟧.shows ⟦<SystemLog as LogSink>⟧.shows
+        host.kept_text host.handed host.returned host.faults host.streams host.maker
+        host.folders.items host.folders_handed host.folders_returned host.folder_faults
+        host.logs.items host.logs_handed host.logs_returned host.account) stays };
 }

@@ -5,6 +5,7 @@ use std::alloc::{AllocError, Global};
 use std::fs;
 use std::rt::HostRuntime;
 use std::test::Fail;
+use tow_folder::{Folder, Look};
 use tow_host::{Host, Kept, LogSink, Put};
 use tow_link::{Whole, read_whole, write_all};
 
@@ -40,6 +41,11 @@ const LOG: u32 = 4_000_000_000;
 
 const LOG_NAME: &str = "access-4000000000.log";
 
+/// The number of a log in the text, which names no file.
+const TEXT_LOG: u32 = 3_999_999_999;
+
+const TEXT_LOG_NAME: &str = "access-3999999999.log";
+
 /// Puts lines into a log of the machine that was just handed out.
 fn log_lines(rt: HostRuntime, lines: &[&[u8]]) -> bool {
     let mut host = SystemHost::new(rt);
@@ -48,7 +54,7 @@ fn log_lines(rt: HostRuntime, lines: &[&[u8]]) -> bool {
     };
     let mut stored = true;
     for line in lines {
-        stored = stored && log.put(0, 1, LOG, line) == Put::Stored;
+        stored = stored && log.put(0, 1, TEXT_LOG, line) == Put::Stored;
     }
     stored
 }
@@ -60,6 +66,7 @@ fn a_log_file_gains_its_lines(rt: HostRuntime) -> Result<(), Fail> {
     assert!(rt; fs::read(&rt, LOG_NAME).is_err());
     assert!(rt; log_lines(rt, &[b"a 204", b""]));
     assert!(rt; log_lines(rt, &[b"b 404"]));
+    assert!(rt; fs::read(&rt, TEXT_LOG_NAME).is_err());
     let lines = fs::read(&rt, LOG_NAME).map_err(|_| "read")?;
     fs::remove_file(&rt, LOG_NAME).map_err(|_| "remove")?;
     assert_eq!(rt; lines.as_slice(), b"a 204\n\nb 404\n".as_slice());
@@ -77,6 +84,7 @@ fn text_back(rt: HostRuntime, host: &mut SystemHost) -> bool {
     host.take_back(Kept {
         text: Some(text),
         streams: None,
+        folders: Vec::new(rt.alloc()),
         logs: Vec::new(rt.alloc()),
         account: None,
     });
@@ -106,5 +114,49 @@ fn a_failure_has_a_name_and_a_reason(rt: HostRuntime) -> Result<(), Fail> {
     );
     let told = format!(in rt.alloc(); "{}", host.stream_failure())?;
     assert_eq!(rt; told.as_str(), "cannot write to the standard output");
+    Ok(())
+}
+
+const FOLDER_NAME: &str = "a-folder-of-a-test";
+
+const FILE_NAME: &str = "a-folder-of-a-test/f";
+
+/// The length of the file in a folder of the machine, which is handed back.
+#[tactic(auto, using(crate::proofs::TestPaths::file))]
+fn length_in(rt: HostRuntime, host: &mut SystemHost) -> Result<Option<u64>, AllocError> {
+    let Ok(mut folder) = host.folder(FOLDER_NAME) else {
+        return Ok(None);
+    };
+    let look = folder.look(0, b"/f");
+    let mut folders = Vec::new(rt.alloc());
+    folders.push(folder)?;
+    host.take_back(Kept {
+        text: None,
+        streams: None,
+        folders,
+        logs: Vec::new(rt.alloc()),
+        account: None,
+    });
+    match look {
+        Look::File { len, .. } => Ok(Some(len)),
+        _ => Ok(None),
+    }
+}
+
+#[test]
+fn a_folder_is_had_by_its_name(rt: HostRuntime) -> Result<(), Fail> {
+    let mut host = SystemHost::new(rt);
+    let _old = fs::remove_dir_all(&rt, FOLDER_NAME);
+    assert_eq!(rt; length_in(rt, &mut host)?, None);
+    let told = format!(in rt.alloc(); "{}", host.folder_failure())?;
+    assert_eq!(rt;
+        told.as_str(),
+        "cannot read the folder 'a-folder-of-a-test': No such file or directory (os error 2)"
+    );
+    fs::create_dir(&rt, FOLDER_NAME).map_err(|_| "make")?;
+    fs::write(&rt, FILE_NAME, b"done").map_err(|_| "write")?;
+    let length = length_in(rt, &mut host)?;
+    fs::remove_dir_all(&rt, FOLDER_NAME).map_err(|_| "remove")?;
+    assert_eq!(rt; length, Some(4));
     Ok(())
 }

@@ -4,7 +4,10 @@ use Rattle.std.specs.Option.{option_map_or}
 use Rattle.tow_model.specs.declared.account.Account.{Account}
 use Rattle.tow_faults.specs.Faults.{NumberedFaults}
 use Rattle.tow_link.specs.Data.{SourceData, SinkData, raised}
+use Rattle.tow_link.specs.Counts.{Counts}
 use Rattle.tow_link.specs.declared.joined.Joined.{Joined}
+use Rattle.tow_semantics.specs.Files.{Files}
+use Rattle.tow_folder.specs.Folders.{FolderData}
 use Rattle.tow_host.specs.Held.{Held, input_shown, output_shown}
 use Rattle.tow_host.specs.Logs.{LogData}
 
@@ -18,11 +21,16 @@ with_parts text_shows input_shows output_shows text streams old = record old {
   output = option_map_or (output_shown output_shows) streams old.output;
 }
 
--- What no command of today changes: the texts and the moments that a host tells, its logs, the counts of logs that were handed
--- out, handed back and refused, and the account.
+-- What no command of today changes: the texts, the moments and the folders' files that a host tells, its folders and its logs, the
+-- counts of those that were handed out, handed back and refused, and the account.
 pub record Untouched : Type 0 where
   pub texts : Option (List (List ℕ × List ℕ))
   pub moments : Option (ℕ → ℕ → ℕ)
+  pub folders : List FolderData
+  pub folders_handed : ℕ
+  pub folders_returned : ℕ
+  pub folder_faults : Counts
+  pub maps : Option (List (List ℕ × Files))
   pub logs : List LogData
   pub logs_handed : ℕ
   pub logs_returned : ℕ
@@ -33,6 +41,11 @@ abbrev pub untouched : Held → Untouched
 untouched held = record {
   texts = held.texts;
   moments = held.moments;
+  folders = held.folders;
+  folders_handed = held.folders_handed;
+  folders_returned = held.folders_returned;
+  folder_faults = held.folder_faults;
+  maps = held.maps;
   logs = held.logs;
   logs_handed = held.logs_handed;
   logs_returned = held.logs_returned;

@@ -94,8 +94,8 @@ pub record NothingFailed (name : List ℕ) (old new : Held) : Type 0 where
   pub output : ¬ (Rose old.output.faults new.output.faults)
   pub patterns : (pattern : List ℕ) → ¬ (Rose (old.larges pattern) (new.larges pattern))
 
--- The host has its streams, and as many text sources were handed back as were handed out, if that was so before. No log was
--- asked for and no log or account handed back.
+-- The host has its streams, and as many text sources were handed back as were handed out, if that was so before. No folder or
+-- log was asked for, and no folder, log or account handed back.
 pub record HandsBack (old new : Held) : Type 0 where
   pub home : new.is_home ≡ true
   pub back : old.handed ≡ old.returned → new.handed ≡ new.returned

@@ -9,7 +9,7 @@ use tow_link::Joined;
 
 /// Hands back what is there of a text's source and the streams.
 ///
-/// for now: no command asks for a log or makes an account, so none is handed back.
+/// for now: no command asks for a folder or a log or makes an account, so none is handed back.
 pub fn give_back<H: Host>(
     alloc: Global,
     host: &mut H,
@@ -19,10 +19,13 @@ pub fn give_back<H: Host>(
     ensures { H.held host.new
         ≡ with_parts H.Text.shows H.Input.shows H.Output.shows text streams (H.held host.old) }
 {
+    let folders = Vec::new(alloc);
+    let logs = Vec::new(alloc);
     host.take_back(Kept {
         text,
         streams,
-        logs: Vec::new(alloc),
+        folders,
+        logs,
         account: None,
     });
 }

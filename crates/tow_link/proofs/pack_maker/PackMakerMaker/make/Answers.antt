@@ -4,9 +4,6 @@ use Rattle.tow_pattern.specs.Patterns.{over_bytes, IsGoodPattern}
 use Rattle.tow_link.proofs.Refusing.{refused_is_bad}
 use Rattle.tow_link.proofs.pack_maker.PackMakerMaker.make.Goals as goal
 
-pub returns-in-Err-CompiledTooBig-clause-later : goal.returns-in-Err-CompiledTooBig-clause-later
-returns-in-Err-CompiledTooBig-clause-later c p = c.refuse.ensures.later
-
 pub returns-in-Err-Syntax-clause-syntax : goal.returns-in-Err-Syntax-clause-syntax
 returns-in-Err-Syntax-clause-syntax c is good =
     let fault = c.in-Err-Syntax in
