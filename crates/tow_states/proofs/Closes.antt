@@ -141,6 +141,7 @@ module _ (s : Setting) (o : Origin) (c : Progress) (t : Tally) (e : ExchangeData
       origin = is.stands.origin;
       wire = is.stands.wire;
       account = (account_is_kept s.tree (run_in s) (grows s) c t is.stands.account).leaves limit;
+      few = is.stands.few;
     };
     may_end = is.may_end;
     runs = runs_released s c t e n d limit is.runs;
@@ -160,6 +161,7 @@ module _ (s : Setting) (o : Origin) (c : Progress) (t : Tally) (e : ExchangeData
           origin = is.stands.origin;
           wire = is.stands.wire;
           account = (account_is_kept s.tree (run_in s) (grows s) c t is.stands.account).stores (line_at c number text) all;
+          few = is.stands.few;
         };
         may_end = is.may_end;
         runs = record {
@@ -182,6 +184,7 @@ module _ (s : Setting) (o : Origin) (c : Progress) (t : Tally) (e : ExchangeData
           origin = is.stands.origin;
           wire = is.stands.wire;
           account = (account_is_kept s.tree (run_in s) (grows s) c t is.stands.account).loses (line_owed s c e number);
+          few = is.stands.few;
         };
         may_end = is.may_end;
         runs = runs_told s c t e n d new number is.runs (has_told s c t e n d new number is.runs lost_same left text does.1);

@@ -1,14 +1,19 @@
 -- No listener is left: the next request is read, or the connection ends.
-use Rattle.std.proofs.Common.{◌≡◌, ◌≢◌, ℕ, ◌≤◌, Bool, false, true≢false, List, [], ◌++◌, filter_map, map, reverse, count_by, Option, Some, None, IsTrue, refl, sym, ap, ap₂, ◌∙◌, subst, append-nil}
+use Rattle.std.proofs.Common.{◌≡◌, ◌≢◌, ℕ, ◌≤◌, Bool, false, true≢false, List, [], ◌++◌, filter_map, map, reverse, count_by, Option, Some, None, IsTrue, refl, sym, ap, ap₂, ◌∙◌, subst, append-nil, suc, true, not, ◌||◌, ◌&&◌, ◌==◌, is_none, arith}
+use Rattle.std.proofs.lemmas.Bool.{and_parts}
 use Rattle.tow_model.specs.declared.content.Content.{Content}
 use Rattle.tow_model.specs.declared.content.Content.TheVariants.{Whole}
 use Rattle.tow_model.specs.declared.record.Record.{Record}
 use Rattle.tow_model.specs.declared.record.Listener.{Listener}
 use Rattle.tow_model.specs.declared.account.End.{End}
 use Rattle.tow_model.specs.declared.account.End.TheVariants.{Done, LinkFault, FolderFault, NoMemory}
+use Rattle.tow_model.specs.declared.limits.TheConstants.{MAX_REQUESTS}
+use Rattle.tow_message.specs.Heads.{is_old}
 use Rattle.tow_message.specs.Stream.{Stream, nothing, ReadsStream}
 use Rattle.tow_semantics.specs.Listeners.{entering, leaving, line_by}
-use Rattle.tow_semantics.specs.Runs.{Entry}
+use Rattle.tow_semantics.specs.Runs.{Entry, is_decided}
+use Rattle.tow_wire.specs.Answers.{closes, is_refused, is_too_long, known_length}
+use Rattle.tow_wire.specs.Wire.{Met, goes_on}
 use Rattle.tow_exchange.specs.Exchanges.{ExchangeData}
 use Rattle.tow_closing.specs.Closings.{ClosingData}
 use Rattle.tow_progress.specs.Progress.{Progress, Origin, origin_of, input_of}
@@ -49,6 +54,32 @@ reading_ends = record {
 }
 
 -- ---- after an exchange
+
+-- an answer to the last request that a connection may have closes
+closes_at : (keep : Bool) (a b c d : Bool) → (not keep || true || a || b || c || d) ≡ true
+closes_at true a b c d = refl
+closes_at false a b c d = refl
+
+not_last : (e : Met) → goes_on e ≡ true → (b : Bool) → (e.number == MAX_REQUESTS) ≡ b → b ≡ false
+not_last e goes false is = refl
+not_last e goes true is =
+    let q = e.request in
+    let o = e.outcome in
+    let closed : closes q e.number e.content o ≡ true =
+    ap
+    (λ (b : Bool). not q.keep || b || is_too_long q.framing || (q.expects && not o.asked)
+        || (is_old q.version && is_none (known_length o.state.choice)) || (o.asked && is_refused e.content))
+    is
+    ∙ closes_at q.keep _ _ _ _ in
+    let open_still : not (closes q e.number e.content o) ≡ true = (and_parts (is_decided o) (not (closes q e.number e.content o)) goes).1 in
+    absurd (true≢false (sym open_still ∙ ap not closed))
+
+is_other : (m n : ℕ) → (m == n) ≡ false → m ≢ n
+is_other m n e = grind (arith, e)
+
+one_more : (e : Met) → goes_on e ≡ true → e.number ≤ MAX_REQUESTS → suc e.number ≤ MAX_REQUESTS
+one_more e goes few =
+    let other = is_other e.number MAX_REQUESTS (not_last e goes (e.number == MAX_REQUESTS) refl) in omega (arith, few, other)
 
 module _ (s : Setting) (o : Origin) (c : Progress) (t : Tally) (e : ExchangeData) (n : Course) (d : ClosingData)
     (done : d.completed.left ≡ []) where
@@ -93,6 +124,7 @@ module _ (s : Setting) (o : Origin) (c : Progress) (t : Tally) (e : ExchangeData
           wire = stays.on_wire;
           account = (account_is_kept s.tree (run_in s) (grows s) c t is.stands.account).completes is.stands.wire e.request bytes complete
               (accounted_for (to_next bytes) (Some (Whole bytes)) is is.leads.1);
+          few = one_more (exchange_of s c e.request (Some (Whole bytes))) complete.goes_on is.stands.few;
         };
         current = refl;
         put = refl;

@@ -1,5 +1,5 @@
 -- Between requests: how a connection begins, and the answer to a head that is refused.
-use Rattle.std.proofs.Common.{◌≡◌, ℕ, List, [], ◌++◌, refl, sym, ap, ◌∙◌, subst, append_assoc}
+use Rattle.std.proofs.Common.{◌≡◌, ℕ, List, [], ◌++◌, refl, sym, ap, ◌∙◌, subst, append_assoc, arith}
 use Rattle.tow_message.specs.Stream.{refused, ReadsStream}
 use Rattle.tow_wire.specs.Answers.{refusal_text}
 use Rattle.tow_progress.specs.Progress.{Progress}
@@ -17,6 +17,7 @@ reading_begins s k peer input all = record {
     origin = refl;
     wire = opening_is (run_in s) k peer input;
     account = account_opens s.tree (run_in s) k peer input all;
+    few = omega arith;
   };
   current = refl;
   put = refl;

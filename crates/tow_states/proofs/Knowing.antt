@@ -1,5 +1,5 @@
 -- What follows from what is known of the open request.
-use Rattle.std.proofs.Common.{◌≡◌, ℕ, List, [], ◌∷◌, ◌++◌, map, reverse, Option, Some, None, refl, sym, ap, ap₂, ◌∙◌, subst, append-nil, append_assoc}
+use Rattle.std.proofs.Common.{◌≡◌, ◌≤◌, ℕ, List, [], ◌∷◌, ◌++◌, map, reverse, Option, Some, None, refl, sym, ap, ap₂, ◌∙◌, subst, append-nil, append_assoc}
 use Rattle.std.proofs.lemmas.List.{reverse-append}
 use Rattle.tow_model.specs.declared.request.Framing.{Framing}
 use Rattle.tow_model.specs.declared.record.Listener.{Listener}
@@ -7,6 +7,7 @@ use Rattle.tow_model.specs.declared.record.Listener.TheVariants.{Log}
 use Rattle.tow_model.specs.declared.account.Call.{Call}
 use Rattle.tow_model.specs.declared.content.Content.{Content}
 use Rattle.tow_model.specs.declared.content.Content.TheVariants.{Whole, Bad, TooLong}
+use Rattle.tow_model.specs.declared.limits.TheConstants.{MAX_REQUESTS}
 use Rattle.tow_message.specs.Contents.{HasContent}
 use Rattle.tow_message.specs.Stream.{HasRequest}
 use Rattle.tow_semantics.specs.Runs.{Walked}
@@ -41,6 +42,7 @@ stands_on s o c d t is stays request spent own = record {
   origin = stays.origin ∙ is.origin;
   wire = stays.on_wire;
   account = (account_is_kept s.tree (run_in s) (grows s) c t is.account).moves d stays.origin request spent own;
+  few = subst (λ (j : ℕ). j ≤ MAX_REQUESTS) (sym request) is.few;
 }
 
 -- ---- the open request

@@ -96,6 +96,7 @@ module _ (s : Setting) (o : Origin) (c : Progress) (t : Tally) (e : ExchangeData
         origin = stays.origin ∙ is.stands.origin;
         wire = stays.on_wire;
         account = (account_is_kept s.tree (run_in s) (grows s) c t is.stands.account).enters limit verdict;
+        few = is.stands.few;
       }
 
   hear_step : (limit : ℕ) (verdict : Verdict) → e.phase ≡ AwaitsVerdict limit

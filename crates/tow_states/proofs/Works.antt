@@ -12,7 +12,6 @@ use Rattle.tow_semantics.specs.Listeners.{entering, formats_of, leaving, line_by
 use Rattle.tow_semantics.specs.Runs.{Ending, for_verdict, is_decided}
 use Rattle.tow_wire.specs.Wire.{Met, answer_to, goes_on, invitation_to, text_of}
 use Rattle.tow_exchange.specs.Exchanges.{ExchangeData}
-use Rattle.tow_exchange.specs.Completions.{CompletedData}
 use Rattle.tow_exchange.specs.declared.phase.Phase.TheVariants.{Stopped}
 use Rattle.tow_program.proofs.Acting.{formats_are_tree}
 use Rattle.tow_closing.specs.Closings.{ClosingData, line_told}
@@ -37,18 +36,17 @@ pub work_begins : (s : Setting) (c : Progress) (t : Tally) (e : ExchangeData) (n
     → e.moment ≡ moment_of s c → t.made ≡ map (entering c.request) n.entries → t.owed ≡ []
     → KeepsInside c.request (reverse e.stand.state.listeners) t.calls → IsWorkOf s.tree e d → Runs s c t e n d None
 work_begins s c t e n d moment made owed inside work =
-    let left : d.completed.left ≡ reverse e.stand.state.listeners = ap (λ (x : CompletedData). x.left) work.completed in
     record {
-      calls = ap₂ (λ (m : List Call) (l : List Listener). m ++ filter_map (leaving c.request) l) made left;
+      calls = ap₂ (λ (m : List Call) (l : List Listener). m ++ filter_map (leaving c.request) l) made work.left;
       lines = ap₂
           (λ (m : List Line) (l : List Listener). m ++ filter_map (line_by s.tree c.number c.request e.request e.stand.state (moment_of s c)) l)
-          owed left;
-      inside = subst (λ (l : List Listener). KeepsInside c.request l t.calls) (sym left) inside;
+          owed work.left;
+      inside = subst (λ (l : List Listener). KeepsInside c.request l t.calls) (sym work.left) inside;
       texts = λ kept.
           work.texts kept
           ∙ ap₂ (λ (f : List (List Piece)) (m : ℕ). filter_map (line_told f e.request e.stand.state m) (reverse e.stand.state.listeners))
           (formats_are_tree s.tree) moment
-          ∙ ap (filter_map (line_told (formats_of s.tree) e.request e.stand.state (moment_of s c))) (sym left);
+          ∙ ap (filter_map (line_told (formats_of s.tree) e.request e.stand.state (moment_of s c))) (sym work.left);
       none = work.none;
     }
 

@@ -16,7 +16,6 @@ use Rattle.tow_semantics.specs.Runs.{Ending, for_verdict}
 use Rattle.tow_semantics.specs.Values.{line_of}
 use Rattle.tow_wire.specs.Wire.{invitation_to, text_of}
 use Rattle.tow_exchange.specs.Exchanges.{ExchangeData}
-use Rattle.tow_exchange.specs.Completions.{completion}
 use Rattle.tow_program.specs.Actions.{formats_in}
 use Rattle.tow_program.specs.Programs.{program_of}
 use Rattle.tow_closing.specs.Closings.{ClosingData, Does, line_told}
@@ -123,9 +122,9 @@ pub record IsClosing (s : Setting) (o : Origin) (c : Progress) (t : Tally) (e : 
   pub runs : Runs s c t e n d owed
   pub leads : LeadsTo s c e n onward
 
--- the closing work of the exchange e, of which nothing was done
+-- All listeners of the exchange e are left to run, with the lines that they tell.
 pub record IsWorkOf (tree : List Statement) (e : ExchangeData) (d : ClosingData) : Type 0 where
-  pub completed : d.completed ≡ completion e
+  pub left : d.completed.left ≡ reverse e.stand.state.listeners
   pub texts : d.lost ≡ false → d.lines
       ≡ filter_map (line_told (formats_in (program_of tree)) e.request e.stand.state e.moment) (reverse e.stand.state.listeners)
   pub none : d.lost ≡ true → d.lines ≡ []

@@ -2,11 +2,12 @@
 --
 -- In the files of this crate s is what a connection is served by, o what none of its steps changes, c how far it has come, t its
 -- calls and its lines, e the exchange of its open request, n what that got so far, and took what was taken of its content.
-use Rattle.std.specs.Prelude.{◌≡◌, ℕ, List, [], ◌++◌, map, reverse, Option, Some, None}
+use Rattle.std.specs.Prelude.{◌≡◌, ℕ, ◌≤◌, List, [], ◌++◌, map, reverse, Option, Some, None}
 use Rattle.tow_model.specs.declared.request.Request.{Request}
 use Rattle.tow_model.specs.declared.request.Framing.{Framing}
 use Rattle.tow_model.specs.declared.content.Content.{Content}
 use Rattle.tow_model.specs.declared.content.Content.TheVariants.{Whole, Bad, TooLong}
+use Rattle.tow_model.specs.declared.limits.TheConstants.{MAX_REQUESTS}
 use Rattle.tow_model.specs.declared.statement.Statement.{Statement}
 use Rattle.tow_message.specs.Contents.{IsContent, IsBad}
 use Rattle.tow_message.specs.Stream.{HasRequest}
@@ -34,11 +35,13 @@ pub record Setting : Type 0 where
 abbrev pub run_in : Setting → Run
 run_in s = run_of s.tree s.files s.moments
 
--- The connection is on its wire and keeps its account.
+-- The connection has come so far: it is on its wire and keeps its account.
 pub record Stands (s : Setting) (o : Origin) (c : Progress) (t : Tally) : Type 0 where
   pub origin : origin_of c ≡ o
   pub wire : IsOnWire (run_in s) c
   pub account : KeepsAccount s.tree (run_in s) c t
+  -- its requests are no more than a connection may have
+  pub few : c.request ≤ MAX_REQUESTS
 
 -- ---- the open request
 
