@@ -68,7 +68,7 @@ not_last e goes true is =
     let closed : closes q e.number e.content o ≡ true =
     ap
     (λ (b : Bool). not q.keep || b || is_too_long q.framing || (q.expects && not o.asked)
-        || (is_old q.version && is_none (known_length o.state.choice)) || (o.asked && is_refused e.content))
+    || (is_old q.version && is_none (known_length o.state.choice)) || (o.asked && is_refused e.content))
     is
     ∙ closes_at q.keep _ _ _ _ in
     let open_still : not (closes q e.number e.content o) ≡ true = (and_parts (is_decided o) (not (closes q e.number e.content o)) goes).1 in

@@ -3,6 +3,7 @@ pub mod Heads
 pub mod Walks
 pub mod Gathers
 pub mod Answers
+pub mod Servings
 pub mod Works
 pub mod Completions
 pub mod Closes

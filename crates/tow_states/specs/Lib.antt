@@ -4,6 +4,7 @@ pub mod Walking
 pub mod Opening
 pub mod Gathering
 pub mod Sending
+pub mod Serving
 pub mod Closing
 pub mod Completing
 pub mod Ending

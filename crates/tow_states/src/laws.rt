@@ -10,6 +10,7 @@ ghost use Rattle.tow_states.specs.Moving.{StatesMove};
 ghost use Rattle.tow_states.specs.Opening.{ExchangeOpens};
 ghost use Rattle.tow_states.specs.Reading.{ReadingBegins, RefusalIsPut, RefusingBegins};
 ghost use Rattle.tow_states.specs.Sending.{AnswerIsDecided, AnswerIsSent};
+ghost use Rattle.tow_states.specs.Serving.{FilesAreOfPages, FoundFilesHaveBytes};
 ghost use Rattle.tow_states.specs.Walking.{WalkIsKept};
 
 /// Whatever its content is, the exchange of the wire ends as the course of the open exchange does.
@@ -95,6 +96,16 @@ pub fn last_is_done()
 /// A connection that was cut has ended as it has to.
 pub fn cut_has_ended()
     ensures { CutHasEnded }
+{}
+
+/// An answer names a file only if a page gave it.
+pub fn files_are_of_pages()
+    ensures { FilesAreOfPages }
+{}
+
+/// Of a file that a page gives the folder has all the bytes that are told.
+pub fn found_files_have_bytes()
+    ensures { FoundFilesHaveBytes }
 {}
 
 /// What holds in a state goes on to hold while the link is read and written.

@@ -10,6 +10,7 @@
 //! - `Completing`: all of its answer was put;
 //! - `Closing`: its listeners run;
 //! - `Ending`: no listener is left: the next request is read, or the connection ends;
+//! - `Serving`: which files an answer names;
 //! - `Moving`: the link is read and written in any state;
 //! - `Breaking`: a fault, or want of memory, in any state.
 //!
