@@ -10,3 +10,4 @@ pub mod Closes
 pub mod Ends
 pub mod Moves
 pub mod Breaks
+pub mod Sound

@@ -10,3 +10,4 @@ pub mod Completing
 pub mod Ending
 pub mod Moving
 pub mod Breaking
+pub mod States

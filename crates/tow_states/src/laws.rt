@@ -11,6 +11,7 @@ ghost use Rattle.tow_states.specs.Opening.{ExchangeOpens};
 ghost use Rattle.tow_states.specs.Reading.{ReadingBegins, RefusalIsPut, RefusingBegins};
 ghost use Rattle.tow_states.specs.Sending.{AnswerIsDecided, AnswerIsSent};
 ghost use Rattle.tow_states.specs.Serving.{FilesAreOfPages, FoundFilesHaveBytes};
+ghost use Rattle.tow_states.specs.States.{StatesAreSound};
 ghost use Rattle.tow_states.specs.Walking.{WalkIsKept};
 
 /// Whatever its content is, the exchange of the wire ends as the course of the open exchange does.
@@ -106,6 +107,11 @@ pub fn files_are_of_pages()
 /// Of a file that a page gives the folder has all the bytes that are told.
 pub fn found_files_have_bytes()
     ensures { FoundFilesHaveBytes }
+{}
+
+/// In every state what was written is a front of the wire, and a request is inside the limits that it has to leave.
+pub fn states_are_sound()
+    ensures { StatesAreSound }
 {}
 
 /// What holds in a state goes on to hold while the link is read and written.
