@@ -1,0 +1,13 @@
+pub mod Known
+pub mod Reading
+pub mod Walking
+pub mod Opening
+pub mod Gathering
+pub mod Sending
+pub mod Serving
+pub mod Closing
+pub mod Completing
+pub mod Ending
+pub mod Moving
+pub mod Breaking
+pub mod States
