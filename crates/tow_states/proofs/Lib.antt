@@ -4,6 +4,7 @@ pub mod Walks
 pub mod Gathers
 pub mod Answers
 pub mod Servings
+pub mod Calls
 pub mod Works
 pub mod Completions
 pub mod Closes

@@ -5,6 +5,7 @@ pub mod Opening
 pub mod Gathering
 pub mod Sending
 pub mod Serving
+pub mod Calling
 pub mod Closing
 pub mod Completing
 pub mod Ending

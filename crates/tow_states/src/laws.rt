@@ -1,6 +1,7 @@
 //! Laws of the definitions, each the contract of a function that does nothing.
 
 ghost use Rattle.tow_states.specs.Breaking.{StatesBreak};
+ghost use Rattle.tow_states.specs.Calling.{CallsHavePlaces};
 ghost use Rattle.tow_states.specs.Closing.{ClosingIsKept};
 ghost use Rattle.tow_states.specs.Completing.{ContentIsShort, ExchangeCompletes};
 ghost use Rattle.tow_states.specs.Ending.{ClosingComesToEnd, CutHasEnded, LastIsDone, ReadingEnds};
@@ -107,6 +108,11 @@ pub fn files_are_of_pages()
 /// Of a file that a page gives the folder has all the bytes that are told.
 pub fn found_files_have_bytes()
     ensures { FoundFilesHaveBytes }
+{}
+
+/// A list with 34 places for each limit of the text has places for all calls of a request.
+pub fn calls_have_places()
+    ensures { CallsHavePlaces }
 {}
 
 /// In every state what was written is a front of the wire, and a request is inside the limits that it has to leave.
