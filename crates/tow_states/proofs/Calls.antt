@@ -1,10 +1,9 @@
 -- A request asks each limit of its text once at most in each pass, and leaves it as often.
-use Rattle.std.proofs.Common.{◌≡◌, ℕ, zero, suc, pred, ◌+◌, ◌*◌, ◌<◌, ◌≤◌, Bool, true, false, cond, List, [], ◌∷◌, ◌++◌, map, drop, length, reverse, count_by, Option, Some, None, if◌then◌else◌, refl, sym, ap, ◌∙◌, subst, append-nil, length-append, arith}
+use Rattle.std.proofs.Common.{◌≡◌, ℕ, zero, suc, pred, ◌+◌, ◌*◌, ◌<◌, ◌≤◌, Bool, cond, List, [], ◌∷◌, ◌++◌, map, length, reverse, Option, Some, None, if◌then◌else◌, refl, sym, ap, ◌∙◌, subst, length-append, arith}
 use Rattle.std.specs.List.{cons_option}
 use Rattle.std.proofs.lemmas.List.{reverse-append}
 use Rattle.std.proofs.lemmas.List.Sums.{sum_by-append}
 use Rattle.tow_model.specs.declared.request.Request.{Request}
-use Rattle.tow_model.specs.declared.record.Record.{Record}
 use Rattle.tow_model.specs.declared.record.Listener.{Listener}
 use Rattle.tow_model.specs.declared.record.Listener.TheVariants.{Leave, Log}
 use Rattle.tow_model.specs.declared.account.Bound.{Bound}
@@ -18,7 +17,6 @@ use Rattle.tow_model.specs.declared.content.Content.TheVariants as content
 use Rattle.tow_model.specs.declared.limits.TheConstants.{MAX_RESTARTS}
 use Rattle.tow_model.specs.declared.statement.Statement.{Statement}
 use Rattle.tow_semantics.specs.Effects.{Effect, Takes, Asks, ReadsContent, LooksUp, BeginsAgain, GoesToDefault, effect_of}
-use Rattle.tow_semantics.specs.Listeners.{bounds_of}
 use Rattle.tow_semantics.specs.Pages.{Found, Serve, Redirect as redirects, Listing, Forbidden, NotModified, NotFound, BadMethod, on_found}
 use Rattle.tow_semantics.specs.Plans.{Exits, Plan, Over, AwaitVerdict, AwaitContent, AwaitPage, Stand, Way, act, default_way, marked, moved, take_step, tested, without_context}
 use Rattle.tow_semantics.specs.Predicates.{held, test_of}
@@ -36,7 +34,7 @@ use Rattle.tow_advance.specs.Under.{plan_in}
 use Rattle.tow_advance.proofs.Plans.{verdict_plan, content_plan, page_plan}
 use Rattle.tow_progress.specs.Accounts.{Tally, called}
 use Rattle.tow_course.specs.Course.{Advances}
-use Rattle.tow_states.specs.Calling.{AsksAtMost, CallsHavePlaces, HasPlaces, HasPlacesFor, PlacesAreKept, is_leaving, leavings, most_asks}
+use Rattle.tow_states.specs.Calling.{AsksAtMost, CallsHavePlaces, HasPlaces, HasPlacesFor, is_leaving, leavings, most_asks}
 
 -- ---- plans
 

@@ -20,6 +20,7 @@ use Rattle.tow_progress.proofs.InsideLemmas.{inside_is_kept}
 use Rattle.tow_course.specs.Course.{Course}
 use Rattle.tow_states.specs.Known.{Setting, run_in, exchange_of, moment_of}
 use Rattle.tow_states.specs.Closing.{ClosingIsKept, IsClosing, Onward, Runs, content_in, cut_off, line_at, line_owed}
+use Rattle.tow_states.proofs.Leavings.{request_stays_inside}
 use Rattle.tow_states.proofs.Knowing.{grows}
 
 -- ---- lists
@@ -53,7 +54,7 @@ module _ (s : Setting) (c : Progress) (t : Tally) (e : ExchangeData) (n : Course
   runs_released limit r = record {
     calls = append_assoc t.made (released limit c ∷ []) (filter_map (leaving c.request) d.completed.left) ∙ r.calls;
     lines = r.lines;
-    inside = inside_is_kept.leaves_one c.request d.completed.left t.calls limit r.inside;
+    inside = (request_stays_inside c.request t.calls).releases d limit r.inside;
     texts = r.texts;
     none = r.none;
   }
@@ -66,7 +67,7 @@ module _ (s : Setting) (c : Progress) (t : Tally) (e : ExchangeData) (n : Course
       record {
         calls = ap (λ (l : List Listener). t.made ++ filter_map (leaving c.request) l) (sym left) ∙ r.calls;
         lines = ap (λ (l : List Listener). t.owed ++ filter_map owes l) (sym left) ∙ r.lines;
-        inside = subst (λ (l : List Listener). KeepsInside c.request l t.calls) left r.inside;
+        inside = (request_stays_inside c.request t.calls).next_leaves d new limit does r.inside;
         texts = λ kept. does.1 ∙ r.texts (sym lost_same ∙ kept) ∙ ap (filter_map told) left;
         none = λ gone. does.1 ∙ r.none (sym lost_same ∙ gone);
       }

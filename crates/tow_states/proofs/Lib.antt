@@ -1,3 +1,4 @@
+pub mod Leavings
 pub mod Knowing
 pub mod Heads
 pub mod Walks

@@ -1,10 +1,9 @@
 -- How many calls of limits the open request may still make.
-use Rattle.std.specs.Prelude.{◌≡◌, ℕ, suc, pred, ◌+◌, ◌*◌, ◌<◌, ◌≤◌, Bool, true, false, List, [], ◌∷◌, length, reverse, count_by}
+use Rattle.std.specs.Prelude.{◌≡◌, ℕ, suc, pred, ◌+◌, ◌*◌, ◌<◌, ◌≤◌, Bool, true, false, List, ◌∷◌, length, reverse, count_by}
 use Rattle.tow_model.specs.declared.request.Request.{Request}
 use Rattle.tow_model.specs.declared.record.Listener.{Listener}
 use Rattle.tow_model.specs.declared.record.Listener.TheVariants.{Leave, Log}
 use Rattle.tow_model.specs.declared.account.Call.{Call}
-use Rattle.tow_model.specs.declared.account.Line.{Line}
 use Rattle.tow_model.specs.declared.account.Verdict.{Verdict}
 use Rattle.tow_model.specs.declared.content.Content.{Content}
 use Rattle.tow_model.specs.declared.limits.TheConstants.{MAX_RESTARTS}

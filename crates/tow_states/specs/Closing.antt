@@ -1,9 +1,7 @@
 -- An exchange completes: its listeners run, the one added last first.
-use Rattle.std.specs.Prelude.{◌≡◌, ◌≢◌, ℕ, ◌<◌, ◌≤◌, ◌⊎◌, true, false, List, [], ◌∷◌, ◌++◌, filter_map, length, map, reverse, count_by, Option, Some, None, IsTrue}
+use Rattle.std.specs.Prelude.{◌≡◌, ◌≢◌, ℕ, ◌<◌, ◌≤◌, ◌⊎◌, true, false, List, [], ◌++◌, filter_map, length, map, reverse, count_by, Option, Some, None, IsTrue}
 use Rattle.tow_model.specs.declared.request.Request.{Request}
 use Rattle.tow_model.specs.declared.record.Record.{Record}
-use Rattle.tow_model.specs.declared.record.Listener.{Listener}
-use Rattle.tow_model.specs.declared.record.Listener.TheVariants.{Leave}
 use Rattle.tow_model.specs.declared.record.Choice.TheVariants.{Undecided}
 use Rattle.tow_model.specs.declared.content.Content.{Content}
 use Rattle.tow_model.specs.declared.content.Content.TheVariants.{Whole}
@@ -28,6 +26,7 @@ use Rattle.tow_progress.specs.Ended.{IsDecidedAs, admits, leaves}
 use Rattle.tow_progress.specs.Accounts.{Tally, called, released, stored, lost}
 use Rattle.tow_progress.specs.Inside.{KeepsInside}
 use Rattle.tow_course.specs.Course.{Course}
+use Rattle.tow_states.specs.Leaving.{left_in}
 use Rattle.tow_states.specs.Known.{Setting, Stands, exchange_of, moment_of, run_in}
 
 -- ---- what follows
@@ -92,11 +91,6 @@ line_at c number text = record { connection = c.number; request = c.request; num
 abbrev pub line_owed : Setting → Progress → ExchangeData → ℕ → Line
 line_owed s c e number =
     line_at c number (line_of (at_number number (formats_of s.tree)) e.request e.stand.state (moment_of s c))
-
--- the listeners that are left, with the one of which the leaving is owed
-abbrev pub left_in : Option ℕ → ClosingData → List Listener
-left_in None d = d.completed.left
-left_in (Some limit) d = Leave limit ∷ d.completed.left
 
 -- The listeners have run but for those that are left.
 pub record Runs (s : Setting) (c : Progress) (t : Tally) (e : ExchangeData) (n : Course) (d : ClosingData)

@@ -1,3 +1,4 @@
+pub mod Leaving
 pub mod Known
 pub mod Reading
 pub mod Walking

@@ -7,6 +7,7 @@ ghost use Rattle.tow_states.specs.Completing.{ContentIsShort, ExchangeCompletes}
 ghost use Rattle.tow_states.specs.Ending.{ClosingComesToEnd, CutHasEnded, LastIsDone, ReadingEnds};
 ghost use Rattle.tow_states.specs.Gathering.{ContentIsTaken, WalkComesToContent};
 ghost use Rattle.tow_states.specs.Known.{CourseIsMet};
+ghost use Rattle.tow_states.specs.Leaving.{RequestStaysInside};
 ghost use Rattle.tow_states.specs.Moving.{StatesMove};
 ghost use Rattle.tow_states.specs.Opening.{ExchangeOpens};
 ghost use Rattle.tow_states.specs.Reading.{ReadingBegins, RefusalIsPut, RefusingBegins};
@@ -14,6 +15,11 @@ ghost use Rattle.tow_states.specs.Sending.{AnswerIsDecided, AnswerIsSent};
 ghost use Rattle.tow_states.specs.Serving.{FilesAreOfPages, FoundFilesHaveBytes};
 ghost use Rattle.tow_states.specs.States.{StatesAreSound};
 ghost use Rattle.tow_states.specs.Walking.{WalkIsKept};
+
+/// A request is inside the limits that its listeners leave, whatever the outside tells.
+pub fn request_stays_inside()
+    ensures { RequestStaysInside }
+{}
 
 /// Whatever its content is, the exchange of the wire ends as the course of the open exchange does.
 pub fn course_is_met()

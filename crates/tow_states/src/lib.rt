@@ -1,6 +1,7 @@
 //! What holds in each state of a connection that is served by turns, and that each step leads from one to the next.
 //! Definitions in `specs/`, no running code:
 //!
+//! - `Leaving`: the limits that the open request is inside, whatever the outside tells;
 //! - `Known`: what is known of the connection and of the exchange of its open request;
 //! - `Reading`: between requests, and the answer to a head that is refused;
 //! - `Opening`: a head was read;
