@@ -13,3 +13,4 @@ pub mod Ends
 pub mod Moves
 pub mod Breaks
 pub mod Sound
+mod Rounds
