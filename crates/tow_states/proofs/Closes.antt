@@ -37,23 +37,17 @@ rest_same x y xs ys is = cc
 -- ---- one listener
 
 module _ (s : Setting) (c : Progress) (t : Tally) (e : ExchangeData) (n : Course) (d : ClosingData) where
-  abbrev told : Listener → Option Text
-  told = line_told (formats_of s.tree) e.request e.stand.state (moment_of s c)
+  abbrev its_text : Listener → Option Text
+  its_text = line_told (formats_of s.tree) e.request e.stand.state (moment_of s c)
 
   abbrev owes : Listener → Option Line
   owes = line_by s.tree c.number c.request e.request e.stand.state (moment_of s c)
-
-  abbrev all_calls : List Call
-  all_calls = map (entering c.request) n.entries ++ filter_map (leaving c.request) (reverse e.stand.state.listeners)
-
-  abbrev all_lines : List Line
-  all_lines = lines_by s.tree (run_in s) c.number (exchange_of s c e.request None) e.stand.state
 
   -- the limit was left that was owed
   runs_released : (limit : ℕ) → Runs s c t e n d (Some limit) → Runs s c (called (released limit c) t) e n d None
   runs_released limit r = record {
     calls = append_assoc t.made (released limit c ∷ []) (filter_map (leaving c.request) d.completed.left) ∙ r.calls;
-    lines = r.lines;
+    told = r.told;
     inside = (request_stays_inside c.request t.calls).releases d limit r.inside;
     texts = r.texts;
     none = r.none;
@@ -66,16 +60,16 @@ module _ (s : Setting) (c : Progress) (t : Tally) (e : ExchangeData) (n : Course
       let left : d.completed.left ≡ Leave limit ∷ new.completed.left = ap (λ (x : CompletedData). x.left) does.0 in
       record {
         calls = ap (λ (l : List Listener). t.made ++ filter_map (leaving c.request) l) (sym left) ∙ r.calls;
-        lines = ap (λ (l : List Listener). t.owed ++ filter_map owes l) (sym left) ∙ r.lines;
+        told = ap (λ (l : List Listener). t.owed ++ filter_map owes l) (sym left) ∙ r.told;
         inside = (request_stays_inside c.request t.calls).next_leaves d new limit does r.inside;
-        texts = λ kept. does.1 ∙ r.texts (sym lost_same ∙ kept) ∙ ap (filter_map told) left;
+        texts = λ kept. does.1 ∙ r.texts (sym lost_same ∙ kept) ∙ ap (filter_map its_text) left;
         none = λ gone. does.1 ∙ r.none (sym lost_same ∙ gone);
       }
 
   -- what is left to tell once the next listener has told its line
   record HasTold (new : ClosingData) (number : ℕ) : Type 0 where
     left : d.completed.left ≡ Log number ∷ new.completed.left
-    texts : new.lost ≡ false → new.lines ≡ filter_map told new.completed.left
+    texts : new.lost ≡ false → new.lines ≡ filter_map its_text new.completed.left
     none : new.lost ≡ true → new.lines ≡ []
 
   -- where there is a line, none was lost, and it is the one that is told
@@ -88,13 +82,13 @@ module _ (s : Setting) (c : Progress) (t : Tally) (e : ExchangeData) (n : Course
     abbrev owed_text : Text
     owed_text = line_of (at_number number (formats_of s.tree)) e.request e.stand.state (moment_of s c)
 
-    its_lines : d.lost ≡ false → d.lines ≡ owed_text ∷ filter_map told new.completed.left
-    its_lines kept = r.texts kept ∙ ap (filter_map told) left
+    its_lines : d.lost ≡ false → d.lines ≡ owed_text ∷ filter_map its_text new.completed.left
+    its_lines kept = r.texts kept ∙ ap (filter_map its_text) left
 
     text_is : (text : Text) → d.lines ≡ text ∷ new.lines → text ≡ owed_text
     text_is text first =
         let kept = a_line_kept r text new.lines first d.lost refl in
-        first_same text owed_text new.lines (filter_map told new.completed.left) (sym first ∙ its_lines kept)
+        first_same text owed_text new.lines (filter_map its_text new.completed.left) (sym first ∙ its_lines kept)
 
     has_told : (text : Option Text) → Tells text d new → HasTold new number
     has_told None tells = record {
@@ -106,7 +100,7 @@ module _ (s : Setting) (c : Progress) (t : Tally) (e : ExchangeData) (n : Course
         let kept = a_line_kept r text new.lines first d.lost refl in
         record {
           left = left;
-          texts = λ still. rest_same text owed_text new.lines (filter_map told new.completed.left) (sym first ∙ its_lines kept);
+          texts = λ still. rest_same text owed_text new.lines (filter_map its_text new.completed.left) (sym first ∙ its_lines kept);
           none = λ gone. absurd (true≢false (sym gone ∙ lost_same ∙ kept));
         }
 
@@ -115,8 +109,8 @@ module _ (s : Setting) (c : Progress) (t : Tally) (e : ExchangeData) (n : Course
       → Runs s c (lost (line_owed s c e number) t) e n new None
   runs_told new number r told_so = record {
     calls = ap (λ (l : List Listener). t.made ++ filter_map (leaving c.request) l) (sym told_so.left) ∙ r.calls;
-    lines = append_assoc t.owed (line_owed s c e number ∷ []) (filter_map owes new.completed.left)
-        ∙ ap (λ (l : List Listener). t.owed ++ filter_map owes l) (sym told_so.left) ∙ r.lines;
+    told = append_assoc t.owed (line_owed s c e number ∷ []) (filter_map owes new.completed.left)
+        ∙ ap (λ (l : List Listener). t.owed ++ filter_map owes l) (sym told_so.left) ∙ r.told;
     inside = inside_is_kept.tells_one c.request new.completed.left t.calls number
         (subst (λ (l : List Listener). KeepsInside c.request l t.calls) told_so.left r.inside);
     texts = told_so.texts;
@@ -167,7 +161,7 @@ module _ (s : Setting) (o : Origin) (c : Progress) (t : Tally) (e : ExchangeData
         may_end = is.may_end;
         runs = record {
           calls = r.calls;
-          lines = ap (λ (x : Text). (t.owed ++ line_at c number x ∷ []) ++ filter_map (owes s c t e n d) new.completed.left) same ∙ r.lines;
+          told = ap (λ (x : Text). (t.owed ++ line_at c number x ∷ []) ++ filter_map (owes s c t e n d) new.completed.left) same ∙ r.told;
           inside = r.inside;
           texts = r.texts;
           none = r.none;

@@ -39,7 +39,7 @@ pub work_begins : (s : Setting) (c : Progress) (t : Tally) (e : ExchangeData) (n
 work_begins s c t e n d moment made owed inside work =
     record {
       calls = ap₂ (λ (m : List Call) (l : List Listener). m ++ filter_map (leaving c.request) l) made work.left;
-      lines = ap₂
+      told = ap₂
           (λ (m : List Line) (l : List Listener). m ++ filter_map (line_by s.tree c.number c.request e.request e.stand.state (moment_of s c)) l)
           owed work.left;
       inside = (request_stays_inside c.request t.calls).completes e d work.left inside;

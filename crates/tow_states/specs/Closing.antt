@@ -9,7 +9,7 @@ use Rattle.tow_model.specs.declared.account.Line.{Line}
 use Rattle.tow_model.specs.declared.statement.Statement.{Statement}
 use Rattle.tow_model.specs.Lists.{IsPrefix}
 use Rattle.tow_model.specs.Texts.{Text}
-use Rattle.tow_semantics.specs.Listeners.{at_number, entering, formats_of, leaving, line_by}
+use Rattle.tow_semantics.specs.Listeners.{at_number, entering, formats_of, leaving, line_by, lines}
 use Rattle.tow_semantics.specs.Runs.{Ending, for_verdict}
 use Rattle.tow_semantics.specs.Values.{line_of}
 use Rattle.tow_wire.specs.Wire.{invitation_to, text_of}
@@ -21,7 +21,6 @@ use Rattle.tow_closing.specs.declared.work.Work.TheVariants as work
 use Rattle.tow_progress.specs.Progress.{Progress, Origin}
 use Rattle.tow_progress.specs.Steps.{IsOpen, IsComplete}
 use Rattle.tow_progress.specs.Whole.{a_closing, a_request, IsAtEnd}
-use Rattle.tow_progress.specs.Exchanges.{lines_by}
 use Rattle.tow_progress.specs.Ended.{IsDecidedAs, admits, leaves}
 use Rattle.tow_progress.specs.Accounts.{Tally, called, released, stored, lost}
 use Rattle.tow_progress.specs.Inside.{KeepsInside}
@@ -99,9 +98,8 @@ pub record Runs (s : Setting) (c : Progress) (t : Tally) (e : ExchangeData) (n :
   pub calls : t.made ++ filter_map (leaving c.request) (left_in owed d)
       ≡ map (entering c.request) n.entries ++ filter_map (leaving c.request) (reverse e.stand.state.listeners)
   -- the lines told and those that are left are all that it owes
-  pub lines : t.owed
-      ++ filter_map (line_by s.tree c.number c.request e.request e.stand.state (moment_of s c)) (left_in owed d)
-      ≡ lines_by s.tree (run_in s) c.number (exchange_of s c e.request None) e.stand.state
+  pub told : t.owed ++ filter_map (line_by s.tree c.number c.request e.request e.stand.state (moment_of s c)) (left_in owed d)
+      ≡ lines s.tree c.number c.request e.request (moment_of s c) e.stand.state
   pub inside : KeepsInside c.request (left_in owed d) t.calls
   -- the lines that are made are those that are left, if they are not lost
   pub texts : d.lost ≡ false
