@@ -1,24 +1,22 @@
 -- The listeners of an exchange run one after the other.
-use Rattle.std.proofs.Common.{◌≡◌, ℕ, Bool, true, false, true≢false, List, [], ◌∷◌, ◌++◌, filter_map, map, reverse, Option, Some, None, IsTrue, refl, sym, ap, ◌∙◌, subst, append_assoc}
+use Rattle.std.proofs.Common.{◌≡◌, ℕ, Bool, true, false, true≢false, List, [], ◌∷◌, ◌++◌, filter_map, Option, Some, None, IsTrue, refl, sym, ap, ◌∙◌, subst, append_assoc}
 use Rattle.tow_model.specs.declared.record.Listener.{Listener}
 use Rattle.tow_model.specs.declared.record.Listener.TheVariants.{Leave, Log}
-use Rattle.tow_model.specs.declared.account.Call.{Call}
 use Rattle.tow_model.specs.declared.account.Line.{Line}
 use Rattle.tow_model.specs.Texts.{Text}
-use Rattle.tow_semantics.specs.Listeners.{at_number, entering, formats_of, leaving, line_by}
+use Rattle.tow_semantics.specs.Listeners.{at_number, formats_of, leaving, line_by}
 use Rattle.tow_semantics.specs.Values.{line_of}
 use Rattle.tow_exchange.specs.Exchanges.{ExchangeData}
 use Rattle.tow_exchange.specs.Completions.{CompletedData}
 use Rattle.tow_closing.specs.Closings.{ClosingData, Does, Tells, line_told}
 use Rattle.tow_closing.specs.declared.work.Work.TheVariants as work
 use Rattle.tow_progress.specs.Progress.{Progress, Origin}
-use Rattle.tow_progress.specs.Exchanges.{lines_by}
 use Rattle.tow_progress.specs.Accounts.{Tally, called, released, stored, lost}
 use Rattle.tow_progress.specs.Inside.{KeepsInside}
 use Rattle.tow_progress.proofs.AccountLemmas.{account_is_kept}
 use Rattle.tow_progress.proofs.InsideLemmas.{inside_is_kept}
 use Rattle.tow_course.specs.Course.{Course}
-use Rattle.tow_states.specs.Known.{Setting, run_in, exchange_of, moment_of}
+use Rattle.tow_states.specs.Known.{Setting, run_in, moment_of}
 use Rattle.tow_states.specs.Closing.{ClosingIsKept, IsClosing, Onward, Runs, content_in, cut_off, line_at, line_owed}
 use Rattle.tow_states.proofs.Leavings.{request_stays_inside}
 use Rattle.tow_states.proofs.Knowing.{grows}

@@ -1,5 +1,5 @@
 -- An example: a request without content and without listeners, from its head to the next one, by one law after the other.
-use Rattle.std.proofs.Common.{◌≡◌, ℕ, Bool, false, List, [], ◌++◌, Some, None, refl, sym, ap, ◌∙◌, subst, append-nil}
+use Rattle.std.proofs.Common.{◌≡◌, ℕ, false, List, [], ◌++◌, Some, refl, sym, ap, ◌∙◌, subst, append-nil}
 use Rattle.tow_model.specs.declared.content.Content.TheVariants.{Whole}
 use Rattle.tow_model.specs.declared.request.Framing.{Framing}
 use Rattle.tow_model.specs.declared.request.Framing.TheVariants.{Empty}
