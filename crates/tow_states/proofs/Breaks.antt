@@ -19,7 +19,8 @@ use Rattle.tow_states.specs.Gathering.{IsGathering}
 use Rattle.tow_states.specs.Sending.{IsSending}
 use Rattle.tow_states.specs.Closing.{IsClosing, IsWorkOf, MayEnd, cut_off}
 use Rattle.tow_states.specs.Breaking.{HaltsIn, StatesBreak}
-use Rattle.tow_states.proofs.Knowing.{added_inside, opens_with}
+use Rattle.tow_states.proofs.Leavings.{request_stays_inside}
+use Rattle.tow_states.proofs.Knowing.{opens_with}
 use Rattle.tow_states.proofs.Answers.{agrees_with_itself}
 use Rattle.tow_states.proofs.Works.{open_may_end, stopped_may_end, work_begins}
 use Rattle.tow_states.proofs.Completions.{not_stopped}
@@ -55,7 +56,7 @@ module _ (s : Setting) (o : Origin) (c : Progress) (t : Tally) where
           may_end = subst (λ (q : Request). MayEnd s c q new.stand.state n None) (sym halts.request)
               (walk_may_end new.stand.state broken);
           runs = work_begins s c t new n d (halts.moment ∙ has.moment) has.calls has.lines
-              (added_inside c.request t.calls e.stand.state.listeners new.stand.state.listeners halts.adds has.inside) work;
+              ((request_stays_inside c.request t.calls).adds e new halts.adds has.inside) work;
           leads = tt;
         }
 

@@ -1,25 +1,24 @@
 -- The listeners of an exchange run one after the other.
-use Rattle.std.proofs.Common.{◌≡◌, ℕ, Bool, true, false, true≢false, List, [], ◌∷◌, ◌++◌, filter_map, map, reverse, Option, Some, None, IsTrue, refl, sym, ap, ◌∙◌, subst, append_assoc}
+use Rattle.std.proofs.Common.{◌≡◌, ℕ, Bool, true, false, true≢false, List, [], ◌∷◌, ◌++◌, filter_map, Option, Some, None, IsTrue, refl, sym, ap, ◌∙◌, subst, append_assoc}
 use Rattle.tow_model.specs.declared.record.Listener.{Listener}
 use Rattle.tow_model.specs.declared.record.Listener.TheVariants.{Leave, Log}
-use Rattle.tow_model.specs.declared.account.Call.{Call}
 use Rattle.tow_model.specs.declared.account.Line.{Line}
 use Rattle.tow_model.specs.Texts.{Text}
-use Rattle.tow_semantics.specs.Listeners.{at_number, entering, formats_of, leaving, line_by}
+use Rattle.tow_semantics.specs.Listeners.{at_number, formats_of, leaving, line_by}
 use Rattle.tow_semantics.specs.Values.{line_of}
 use Rattle.tow_exchange.specs.Exchanges.{ExchangeData}
 use Rattle.tow_exchange.specs.Completions.{CompletedData}
 use Rattle.tow_closing.specs.Closings.{ClosingData, Does, Tells, line_told}
 use Rattle.tow_closing.specs.declared.work.Work.TheVariants as work
 use Rattle.tow_progress.specs.Progress.{Progress, Origin}
-use Rattle.tow_progress.specs.Exchanges.{lines_by}
 use Rattle.tow_progress.specs.Accounts.{Tally, called, released, stored, lost}
 use Rattle.tow_progress.specs.Inside.{KeepsInside}
 use Rattle.tow_progress.proofs.AccountLemmas.{account_is_kept}
 use Rattle.tow_progress.proofs.InsideLemmas.{inside_is_kept}
 use Rattle.tow_course.specs.Course.{Course}
-use Rattle.tow_states.specs.Known.{Setting, run_in, exchange_of, moment_of}
+use Rattle.tow_states.specs.Known.{Setting, run_in, moment_of}
 use Rattle.tow_states.specs.Closing.{ClosingIsKept, IsClosing, Onward, Runs, content_in, cut_off, line_at, line_owed}
+use Rattle.tow_states.proofs.Leavings.{request_stays_inside}
 use Rattle.tow_states.proofs.Knowing.{grows}
 
 -- ---- lists
@@ -36,24 +35,18 @@ rest_same x y xs ys is = cc
 -- ---- one listener
 
 module _ (s : Setting) (c : Progress) (t : Tally) (e : ExchangeData) (n : Course) (d : ClosingData) where
-  abbrev told : Listener → Option Text
-  told = line_told (formats_of s.tree) e.request e.stand.state (moment_of s c)
+  abbrev its_text : Listener → Option Text
+  its_text = line_told (formats_of s.tree) e.request e.stand.state (moment_of s c)
 
   abbrev owes : Listener → Option Line
   owes = line_by s.tree c.number c.request e.request e.stand.state (moment_of s c)
-
-  abbrev all_calls : List Call
-  all_calls = map (entering c.request) n.entries ++ filter_map (leaving c.request) (reverse e.stand.state.listeners)
-
-  abbrev all_lines : List Line
-  all_lines = lines_by s.tree (run_in s) c.number (exchange_of s c e.request None) e.stand.state
 
   -- the limit was left that was owed
   runs_released : (limit : ℕ) → Runs s c t e n d (Some limit) → Runs s c (called (released limit c) t) e n d None
   runs_released limit r = record {
     calls = append_assoc t.made (released limit c ∷ []) (filter_map (leaving c.request) d.completed.left) ∙ r.calls;
-    lines = r.lines;
-    inside = inside_is_kept.leaves_one c.request d.completed.left t.calls limit r.inside;
+    told = r.told;
+    inside = (request_stays_inside c.request t.calls).releases d limit r.inside;
     texts = r.texts;
     none = r.none;
   }
@@ -65,16 +58,16 @@ module _ (s : Setting) (c : Progress) (t : Tally) (e : ExchangeData) (n : Course
       let left : d.completed.left ≡ Leave limit ∷ new.completed.left = ap (λ (x : CompletedData). x.left) does.0 in
       record {
         calls = ap (λ (l : List Listener). t.made ++ filter_map (leaving c.request) l) (sym left) ∙ r.calls;
-        lines = ap (λ (l : List Listener). t.owed ++ filter_map owes l) (sym left) ∙ r.lines;
-        inside = subst (λ (l : List Listener). KeepsInside c.request l t.calls) left r.inside;
-        texts = λ kept. does.1 ∙ r.texts (sym lost_same ∙ kept) ∙ ap (filter_map told) left;
+        told = ap (λ (l : List Listener). t.owed ++ filter_map owes l) (sym left) ∙ r.told;
+        inside = (request_stays_inside c.request t.calls).next_leaves d new limit does r.inside;
+        texts = λ kept. does.1 ∙ r.texts (sym lost_same ∙ kept) ∙ ap (filter_map its_text) left;
         none = λ gone. does.1 ∙ r.none (sym lost_same ∙ gone);
       }
 
   -- what is left to tell once the next listener has told its line
   record HasTold (new : ClosingData) (number : ℕ) : Type 0 where
     left : d.completed.left ≡ Log number ∷ new.completed.left
-    texts : new.lost ≡ false → new.lines ≡ filter_map told new.completed.left
+    texts : new.lost ≡ false → new.lines ≡ filter_map its_text new.completed.left
     none : new.lost ≡ true → new.lines ≡ []
 
   -- where there is a line, none was lost, and it is the one that is told
@@ -87,13 +80,13 @@ module _ (s : Setting) (c : Progress) (t : Tally) (e : ExchangeData) (n : Course
     abbrev owed_text : Text
     owed_text = line_of (at_number number (formats_of s.tree)) e.request e.stand.state (moment_of s c)
 
-    its_lines : d.lost ≡ false → d.lines ≡ owed_text ∷ filter_map told new.completed.left
-    its_lines kept = r.texts kept ∙ ap (filter_map told) left
+    its_lines : d.lost ≡ false → d.lines ≡ owed_text ∷ filter_map its_text new.completed.left
+    its_lines kept = r.texts kept ∙ ap (filter_map its_text) left
 
     text_is : (text : Text) → d.lines ≡ text ∷ new.lines → text ≡ owed_text
     text_is text first =
         let kept = a_line_kept r text new.lines first d.lost refl in
-        first_same text owed_text new.lines (filter_map told new.completed.left) (sym first ∙ its_lines kept)
+        first_same text owed_text new.lines (filter_map its_text new.completed.left) (sym first ∙ its_lines kept)
 
     has_told : (text : Option Text) → Tells text d new → HasTold new number
     has_told None tells = record {
@@ -105,7 +98,7 @@ module _ (s : Setting) (c : Progress) (t : Tally) (e : ExchangeData) (n : Course
         let kept = a_line_kept r text new.lines first d.lost refl in
         record {
           left = left;
-          texts = λ still. rest_same text owed_text new.lines (filter_map told new.completed.left) (sym first ∙ its_lines kept);
+          texts = λ still. rest_same text owed_text new.lines (filter_map its_text new.completed.left) (sym first ∙ its_lines kept);
           none = λ gone. absurd (true≢false (sym gone ∙ lost_same ∙ kept));
         }
 
@@ -114,8 +107,8 @@ module _ (s : Setting) (c : Progress) (t : Tally) (e : ExchangeData) (n : Course
       → Runs s c (lost (line_owed s c e number) t) e n new None
   runs_told new number r told_so = record {
     calls = ap (λ (l : List Listener). t.made ++ filter_map (leaving c.request) l) (sym told_so.left) ∙ r.calls;
-    lines = append_assoc t.owed (line_owed s c e number ∷ []) (filter_map owes new.completed.left)
-        ∙ ap (λ (l : List Listener). t.owed ++ filter_map owes l) (sym told_so.left) ∙ r.lines;
+    told = append_assoc t.owed (line_owed s c e number ∷ []) (filter_map owes new.completed.left)
+        ∙ ap (λ (l : List Listener). t.owed ++ filter_map owes l) (sym told_so.left) ∙ r.told;
     inside = inside_is_kept.tells_one c.request new.completed.left t.calls number
         (subst (λ (l : List Listener). KeepsInside c.request l t.calls) told_so.left r.inside);
     texts = told_so.texts;
@@ -166,7 +159,7 @@ module _ (s : Setting) (o : Origin) (c : Progress) (t : Tally) (e : ExchangeData
         may_end = is.may_end;
         runs = record {
           calls = r.calls;
-          lines = ap (λ (x : Text). (t.owed ++ line_at c number x ∷ []) ++ filter_map (owes s c t e n d) new.completed.left) same ∙ r.lines;
+          told = ap (λ (x : Text). (t.owed ++ line_at c number x ∷ []) ++ filter_map (owes s c t e n d) new.completed.left) same ∙ r.told;
           inside = r.inside;
           texts = r.texts;
           none = r.none;

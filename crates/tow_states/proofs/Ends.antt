@@ -93,7 +93,7 @@ module _ (s : Setting) (o : Origin) (c : Progress) (t : Tally) (e : ExchangeData
   told_all r =
       sym (append-nil t.owed)
       ∙ ap (λ (l : List Listener). t.owed ++ filter_map (line_by s.tree c.number c.request e.request e.stand.state (moment_of s c)) l) (sym done)
-      ∙ r.lines
+      ∙ r.told
 
   left_all : Runs s c t e n d None → KeepsInside c.request [] t.calls
   left_all r = subst (λ (l : List Listener). KeepsInside c.request l t.calls) done r.inside

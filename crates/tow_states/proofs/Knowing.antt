@@ -1,10 +1,6 @@
 -- What follows from what is known of the open request.
-use Rattle.std.proofs.Common.{◌≡◌, ◌≤◌, ℕ, List, [], ◌∷◌, ◌++◌, map, reverse, Option, Some, None, refl, sym, ap, ap₂, ◌∙◌, subst, append-nil, append_assoc}
-use Rattle.std.proofs.lemmas.List.{reverse-append}
+use Rattle.std.proofs.Common.{◌≡◌, ◌≤◌, ℕ, List, [], ◌++◌, Option, Some, None, refl, sym, ap, ap₂, ◌∙◌, subst, append-nil, append_assoc}
 use Rattle.tow_model.specs.declared.request.Framing.{Framing}
-use Rattle.tow_model.specs.declared.record.Listener.{Listener}
-use Rattle.tow_model.specs.declared.record.Listener.TheVariants.{Log}
-use Rattle.tow_model.specs.declared.account.Call.{Call}
 use Rattle.tow_model.specs.declared.content.Content.{Content}
 use Rattle.tow_model.specs.declared.content.Content.TheVariants.{Whole, Bad, TooLong}
 use Rattle.tow_model.specs.declared.limits.TheConstants.{MAX_REQUESTS}
@@ -14,16 +10,13 @@ use Rattle.tow_semantics.specs.Runs.{Walked}
 use Rattle.tow_semantics.specs.Outcome.{outcome}
 use Rattle.tow_semantics.specs.Sites.{given}
 use Rattle.tow_exchange.specs.Exchanges.{ExchangeData}
-use Rattle.tow_advance.specs.Moves.{AddsLogs}
 use Rattle.tow_progress.specs.Progress.{Progress, Origin, unfinished}
 use Rattle.tow_progress.specs.Runs.{Grows}
 use Rattle.tow_progress.specs.Steps.{IsKnown, IsOpen, Stays, StepsKeep, taken}
 use Rattle.tow_progress.specs.Accounts.{Tally}
-use Rattle.tow_progress.specs.Inside.{KeepsInside}
 use Rattle.tow_progress.proofs.Growing.{texts_grow}
 use Rattle.tow_progress.proofs.StepLemmas.{wire_is_kept}
 use Rattle.tow_progress.proofs.AccountLemmas.{account_is_kept}
-use Rattle.tow_progress.proofs.InsideLemmas.{inside_is_kept}
 use Rattle.tow_course.specs.Course.{Course, outcome_with, verdicts_in}
 use Rattle.tow_states.specs.Known.{Setting, run_in, Stands, moment_of, Shows, HasExchange, CourseIsMet}
 
@@ -85,22 +78,3 @@ module _ (s : Setting) (c : Progress) (t : Tally) (e : ExchangeData) (n : Course
 
 pub course_is_met : CourseIsMet
 course_is_met s c t e n took has content = ap (λ (w : Walked). w.outcome) (walked_is s c t e n took has content)
-
--- ---- its listeners
-
--- logs are told, and leave no limit
-pub logs_inside : (j : ℕ) (made : List Call) (listeners : List Listener) (logs : List ℕ) → KeepsInside j (reverse listeners) made
-    → KeepsInside j (reverse (listeners ++ map Log logs)) made
-logs_inside j made listeners [] keeps =
-    subst (λ (l : List Listener). KeepsInside j (reverse l) made) (sym (append-nil listeners)) keeps
-logs_inside j made listeners (log ∷ logs) keeps =
-    let more : KeepsInside j (reverse (listeners ++ Log log ∷ [])) made =
-    subst (λ (l : List Listener). KeepsInside j l made) (sym (reverse-append listeners (Log log ∷ [])))
-    (inside_is_kept.adds_log j (reverse listeners) made log keeps) in
-    subst (λ (l : List Listener). KeepsInside j (reverse l) made) (append_assoc listeners (Log log ∷ []) (map Log logs))
-    (logs_inside j made (listeners ++ Log log ∷ []) logs more)
-
-pub added_inside : (j : ℕ) (made : List Call) (old new : List Listener) → AddsLogs old new → KeepsInside j (reverse old) made
-    → KeepsInside j (reverse new) made
-added_inside j made old new adds keeps =
-    subst (λ (l : List Listener). KeepsInside j (reverse l) made) (sym adds.1) (logs_inside j made old adds.0 keeps)

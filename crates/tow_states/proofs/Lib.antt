@@ -1,9 +1,11 @@
+pub mod Leavings
 pub mod Knowing
 pub mod Heads
 pub mod Walks
 pub mod Gathers
 pub mod Answers
 pub mod Servings
+pub mod Calls
 pub mod Works
 pub mod Completions
 pub mod Closes
@@ -11,3 +13,4 @@ pub mod Ends
 pub mod Moves
 pub mod Breaks
 pub mod Sound
+mod Rounds

@@ -1,5 +1,5 @@
 -- An answer names a file only if a page gave it.
-use Rattle.std.proofs.Common.{◌≡◌, ℕ, zero, suc, Bool, true, false, nat_le, List, [], ◌∷◌, drop, length, Option, Some, IsTrue, if◌then◌else◌, refl, sym, ap, ◌∙◌, subst, arith}
+use Rattle.std.proofs.Common.{◌≡◌, ℕ, zero, suc, Bool, true, false, nat_le, List, [], ◌∷◌, drop, length, Option, if◌then◌else◌, refl, sym, ap, ◌∙◌, subst, arith}
 use Rattle.std.specs.Prelude.{option_map}
 use Rattle.std.specs.Option.{unwrap_or}
 use Rattle.tow_model.specs.declared.request.Request.{Request}
@@ -13,9 +13,9 @@ use Rattle.tow_model.specs.declared.content.Content.TheVariants as content
 use Rattle.tow_model.specs.declared.statement.Statement.{Statement}
 use Rattle.tow_model.specs.Texts.{Text}
 use Rattle.tow_semantics.specs.Effects.{Effect, Takes, Asks, ReadsContent, LooksUp, BeginsAgain, GoesToDefault, effect_of, not_allowed}
-use Rattle.tow_semantics.specs.Files.{File, Files, file_at}
+use Rattle.tow_semantics.specs.Files.{File, Files}
 use Rattle.tow_semantics.specs.Pages.{Found, Serve, Redirect as redirects, Listing, Forbidden, NotModified, NotFound, BadMethod, found_page}
-use Rattle.tow_semantics.specs.Plans.{Exits, Plan, Over, AwaitVerdict, AwaitContent, AwaitPage, Stand, Way, act, default_way, marked, moved, take_step, tested, without_context}
+use Rattle.tow_semantics.specs.Plans.{Exits, Plan, Over, Stand, Way, act, default_way, marked, moved, take_step, tested, without_context}
 use Rattle.tow_semantics.specs.Predicates.{held, test_of}
 use Rattle.tow_semantics.specs.Steps.{Go, Step, Stop}
 use Rattle.tow_semantics.proofs.Servings.{serves_its_files}

@@ -1,6 +1,4 @@
 -- What is true in every state.
-use Rattle.std.proofs.Common.{List, ℕ}
-use Rattle.tow_model.specs.declared.record.Listener.{Listener}
 use Rattle.tow_progress.specs.Progress.{Progress, Origin}
 use Rattle.tow_progress.specs.Accounts.{Tally}
 use Rattle.tow_progress.specs.Inside.{KeepsInside}

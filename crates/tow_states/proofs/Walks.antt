@@ -1,8 +1,6 @@
 -- An exchange opens, and walks on.
-use Rattle.std.proofs.Common.{◌≡◌, ℕ, Bool, List, [], ◌∷◌, ◌++◌, map, reverse, Option, refl, sym, ap, ◌∙◌, subst, append_assoc}
-use Rattle.std.proofs.lemmas.List.{map-append, reverse-append}
-use Rattle.tow_model.specs.declared.record.Listener.{Listener}
-use Rattle.tow_model.specs.declared.record.Listener.TheVariants.{Leave}
+use Rattle.std.proofs.Common.{◌≡◌, ℕ, Bool, List, [], ◌∷◌, ◌++◌, map, Option, refl, sym, ap, ◌∙◌, subst, append_assoc}
+use Rattle.std.proofs.lemmas.List.{map-append}
 use Rattle.tow_model.specs.declared.request.Request.{Request}
 use Rattle.tow_model.specs.declared.content.Content.{Content}
 use Rattle.tow_model.specs.declared.account.Call.{Call}
@@ -18,15 +16,14 @@ use Rattle.tow_exchange.specs.declared.phase.Phase.TheVariants.{AwaitsVerdict, A
 use Rattle.tow_progress.specs.Progress.{Progress, Origin, unfinished}
 use Rattle.tow_progress.specs.Steps.{heard, taken}
 use Rattle.tow_progress.specs.Accounts.{Tally, called, entered}
-use Rattle.tow_progress.specs.Inside.{KeepsInside}
 use Rattle.tow_progress.proofs.AccountLemmas.{account_is_kept}
-use Rattle.tow_progress.proofs.InsideLemmas.{inside_is_kept}
 use Rattle.tow_course.specs.Course.{Course, heard_in, looked_in, verdicts_in}
 use Rattle.tow_course.proofs.Coursing.{course_advances, course_hears, course_looks, course_opens}
 use Rattle.tow_states.specs.Known.{Setting, run_in, moment_of, Stands, Shows}
 use Rattle.tow_states.specs.Opening.{ExchangeOpens}
 use Rattle.tow_states.specs.Walking.{IsWalking, GoesOn, WalkIsKept}
-use Rattle.tow_states.proofs.Knowing.{grows, steps_keep, stands_on, added_inside}
+use Rattle.tow_states.proofs.Leavings.{request_stays_inside}
+use Rattle.tow_states.proofs.Knowing.{grows, steps_keep, stands_on}
 
 pub exchange_opens : ExchangeOpens
 exchange_opens s o c t is q head piped cut request =
@@ -68,7 +65,7 @@ module _ (s : Setting) (o : Origin) (c : Progress) (t : Tally) (e : ExchangeData
           verdicts = is.exchange.verdicts;
           calls = is.exchange.calls;
           lines = is.exchange.lines;
-          inside = added_inside c.request t.calls e.stand.state.listeners new.stand.state.listeners a.adds is.exchange.inside;
+          inside = (request_stays_inside c.request t.calls).adds e new a.adds is.exchange.inside;
         };
         none = is.none;
         unasked = is.unasked;
@@ -113,9 +110,7 @@ module _ (s : Setting) (o : Origin) (c : Progress) (t : Tally) (e : ExchangeData
       verdicts = heard_more limit Admitted;
       calls = made_more limit Admitted;
       lines = is.exchange.lines;
-      inside = subst (λ (l : List Listener). KeepsInside c.request l (t.calls ++ entered limit c Admitted ∷ []))
-          (sym (reverse-append e.stand.state.listeners (Leave limit ∷ [])))
-          (inside_is_kept.admits c.request (reverse e.stand.state.listeners) t.calls limit is.exchange.inside);
+      inside = (request_stays_inside c.request t.calls).hears e limit Admitted is.exchange.inside;
     };
     none = is.none;
     unasked = is.unasked;
@@ -133,7 +128,7 @@ module _ (s : Setting) (o : Origin) (c : Progress) (t : Tally) (e : ExchangeData
       verdicts = heard_more limit Refused;
       calls = made_more limit Refused;
       lines = is.exchange.lines;
-      inside = inside_is_kept.refuses c.request (reverse e.stand.state.listeners) t.calls limit is.exchange.inside;
+      inside = (request_stays_inside c.request t.calls).hears e limit Refused is.exchange.inside;
     };
     none = is.none;
     unasked = is.unasked;
@@ -146,16 +141,15 @@ module _ (s : Setting) (o : Origin) (c : Progress) (t : Tally) (e : ExchangeData
     number : new.number ≡ e.number
     request : new.request ≡ e.request
     moment : new.moment ≡ e.moment
-    listeners : new.stand.state.listeners ≡ e.stand.state.listeners
 
   looks : (p : Found) → Looks (page_given p e)
-  looks (Serve path len second) = record { connection = refl; number = refl; request = refl; moment = refl; listeners = refl }
-  looks (Redirect to) = record { connection = refl; number = refl; request = refl; moment = refl; listeners = refl }
-  looks (Listing bytes) = record { connection = refl; number = refl; request = refl; moment = refl; listeners = refl }
-  looks Forbidden = record { connection = refl; number = refl; request = refl; moment = refl; listeners = refl }
-  looks (NotModified second) = record { connection = refl; number = refl; request = refl; moment = refl; listeners = refl }
-  looks NotFound = record { connection = refl; number = refl; request = refl; moment = refl; listeners = refl }
-  looks BadMethod = record { connection = refl; number = refl; request = refl; moment = refl; listeners = refl }
+  looks (Serve path len second) = record { connection = refl; number = refl; request = refl; moment = refl }
+  looks (Redirect to) = record { connection = refl; number = refl; request = refl; moment = refl }
+  looks (Listing bytes) = record { connection = refl; number = refl; request = refl; moment = refl }
+  looks Forbidden = record { connection = refl; number = refl; request = refl; moment = refl }
+  looks (NotModified second) = record { connection = refl; number = refl; request = refl; moment = refl }
+  looks NotFound = record { connection = refl; number = refl; request = refl; moment = refl }
+  looks BadMethod = record { connection = refl; number = refl; request = refl; moment = refl }
 
   look_step : (location : Text) (listing : Bool) → e.phase ≡ AwaitsPage location listing
       → IsWalking s o c t (page_given (found_page s.files location listing e.request e.stand.state) e) (looked_in n)
@@ -174,7 +168,7 @@ module _ (s : Setting) (o : Origin) (c : Progress) (t : Tally) (e : ExchangeData
           verdicts = is.exchange.verdicts;
           calls = is.exchange.calls;
           lines = is.exchange.lines;
-          inside = subst (λ (l : List Listener). KeepsInside c.request (reverse l) t.calls) (sym same.listeners) is.exchange.inside;
+          inside = (request_stays_inside c.request t.calls).looks e (found_page s.files location listing e.request e.stand.state) is.exchange.inside;
         };
         none = is.none;
         unasked = is.unasked;

@@ -19,13 +19,14 @@ use Rattle.tow_progress.specs.Progress.{Progress}
 use Rattle.tow_progress.specs.Steps.{IsOpen, Settles}
 use Rattle.tow_progress.specs.Ended.{IsDecidedAs, admits, leaves}
 use Rattle.tow_progress.specs.Accounts.{Tally}
-use Rattle.tow_progress.specs.Inside.{KeepsInside}
 use Rattle.tow_progress.proofs.Opens.{answers_settle, front_of_front, not_waiting, with_outcome}
 use Rattle.tow_course.specs.Course.{Course, Agrees, outcome_with}
 use Rattle.tow_course.specs.Breaks.{IsBroken}
+use Rattle.tow_states.specs.Leaving.{IsInside}
 use Rattle.tow_states.specs.Known.{Setting, run_in, moment_of, exchange_of, HasExchange}
 use Rattle.tow_states.specs.Closing.{IsAll, IsWorkOf, MayEnd, Runs}
 use Rattle.tow_states.specs.Completing.{answer_closes}
+use Rattle.tow_states.proofs.Leavings.{request_stays_inside}
 use Rattle.tow_states.proofs.Knowing.{course_is_met, grows, opens_with}
 use Rattle.tow_states.proofs.Answers.{agrees_with_itself, ends_so, is_decided_so}
 
@@ -34,14 +35,14 @@ use Rattle.tow_states.proofs.Answers.{agrees_with_itself, ends_so, is_decided_so
 -- all listeners are to run, with the lines that they tell
 pub work_begins : (s : Setting) (c : Progress) (t : Tally) (e : ExchangeData) (n : Course) (d : ClosingData)
     → e.moment ≡ moment_of s c → t.made ≡ map (entering c.request) n.entries → t.owed ≡ []
-    → KeepsInside c.request (reverse e.stand.state.listeners) t.calls → IsWorkOf s.tree e d → Runs s c t e n d None
+    → IsInside c.request e t.calls → IsWorkOf s.tree e d → Runs s c t e n d None
 work_begins s c t e n d moment made owed inside work =
     record {
       calls = ap₂ (λ (m : List Call) (l : List Listener). m ++ filter_map (leaving c.request) l) made work.left;
-      lines = ap₂
+      told = ap₂
           (λ (m : List Line) (l : List Listener). m ++ filter_map (line_by s.tree c.number c.request e.request e.stand.state (moment_of s c)) l)
           owed work.left;
-      inside = subst (λ (l : List Listener). KeepsInside c.request l t.calls) (sym work.left) inside;
+      inside = (request_stays_inside c.request t.calls).completes e d work.left inside;
       texts = λ kept.
           work.texts kept
           ∙ ap₂ (λ (f : List (List Piece)) (m : ℕ). filter_map (line_told f e.request e.stand.state m) (reverse e.stand.state.listeners))

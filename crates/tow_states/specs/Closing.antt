@@ -1,9 +1,7 @@
 -- An exchange completes: its listeners run, the one added last first.
-use Rattle.std.specs.Prelude.{◌≡◌, ◌≢◌, ℕ, ◌<◌, ◌≤◌, ◌⊎◌, true, false, List, [], ◌∷◌, ◌++◌, filter_map, length, map, reverse, count_by, Option, Some, None, IsTrue}
+use Rattle.std.specs.Prelude.{◌≡◌, ◌≢◌, ℕ, ◌<◌, ◌≤◌, ◌⊎◌, true, false, List, [], ◌++◌, filter_map, length, map, reverse, count_by, Option, Some, None, IsTrue}
 use Rattle.tow_model.specs.declared.request.Request.{Request}
 use Rattle.tow_model.specs.declared.record.Record.{Record}
-use Rattle.tow_model.specs.declared.record.Listener.{Listener}
-use Rattle.tow_model.specs.declared.record.Listener.TheVariants.{Leave}
 use Rattle.tow_model.specs.declared.record.Choice.TheVariants.{Undecided}
 use Rattle.tow_model.specs.declared.content.Content.{Content}
 use Rattle.tow_model.specs.declared.content.Content.TheVariants.{Whole}
@@ -11,7 +9,7 @@ use Rattle.tow_model.specs.declared.account.Line.{Line}
 use Rattle.tow_model.specs.declared.statement.Statement.{Statement}
 use Rattle.tow_model.specs.Lists.{IsPrefix}
 use Rattle.tow_model.specs.Texts.{Text}
-use Rattle.tow_semantics.specs.Listeners.{at_number, entering, formats_of, leaving, line_by}
+use Rattle.tow_semantics.specs.Listeners.{at_number, entering, formats_of, leaving, line_by, lines}
 use Rattle.tow_semantics.specs.Runs.{Ending, for_verdict}
 use Rattle.tow_semantics.specs.Values.{line_of}
 use Rattle.tow_wire.specs.Wire.{invitation_to, text_of}
@@ -23,11 +21,11 @@ use Rattle.tow_closing.specs.declared.work.Work.TheVariants as work
 use Rattle.tow_progress.specs.Progress.{Progress, Origin}
 use Rattle.tow_progress.specs.Steps.{IsOpen, IsComplete}
 use Rattle.tow_progress.specs.Whole.{a_closing, a_request, IsAtEnd}
-use Rattle.tow_progress.specs.Exchanges.{lines_by}
 use Rattle.tow_progress.specs.Ended.{IsDecidedAs, admits, leaves}
 use Rattle.tow_progress.specs.Accounts.{Tally, called, released, stored, lost}
 use Rattle.tow_progress.specs.Inside.{KeepsInside}
 use Rattle.tow_course.specs.Course.{Course}
+use Rattle.tow_states.specs.Leaving.{left_in}
 use Rattle.tow_states.specs.Known.{Setting, Stands, exchange_of, moment_of, run_in}
 
 -- ---- what follows
@@ -93,11 +91,6 @@ abbrev pub line_owed : Setting → Progress → ExchangeData → ℕ → Line
 line_owed s c e number =
     line_at c number (line_of (at_number number (formats_of s.tree)) e.request e.stand.state (moment_of s c))
 
--- the listeners that are left, with the one of which the leaving is owed
-abbrev pub left_in : Option ℕ → ClosingData → List Listener
-left_in None d = d.completed.left
-left_in (Some limit) d = Leave limit ∷ d.completed.left
-
 -- The listeners have run but for those that are left.
 pub record Runs (s : Setting) (c : Progress) (t : Tally) (e : ExchangeData) (n : Course) (d : ClosingData)
     (owed : Option ℕ) : Type 0 where
@@ -105,9 +98,8 @@ pub record Runs (s : Setting) (c : Progress) (t : Tally) (e : ExchangeData) (n :
   pub calls : t.made ++ filter_map (leaving c.request) (left_in owed d)
       ≡ map (entering c.request) n.entries ++ filter_map (leaving c.request) (reverse e.stand.state.listeners)
   -- the lines told and those that are left are all that it owes
-  pub lines : t.owed
-      ++ filter_map (line_by s.tree c.number c.request e.request e.stand.state (moment_of s c)) (left_in owed d)
-      ≡ lines_by s.tree (run_in s) c.number (exchange_of s c e.request None) e.stand.state
+  pub told : t.owed ++ filter_map (line_by s.tree c.number c.request e.request e.stand.state (moment_of s c)) (left_in owed d)
+      ≡ lines s.tree c.number c.request e.request (moment_of s c) e.stand.state
   pub inside : KeepsInside c.request (left_in owed d) t.calls
   -- the lines that are made are those that are left, if they are not lost
   pub texts : d.lost ≡ false

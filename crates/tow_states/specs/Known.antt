@@ -2,7 +2,7 @@
 --
 -- In the files of this crate s is what a connection is served by, o what none of its steps changes, c how far it has come, t its
 -- calls and its lines, e the exchange of its open request, n what that got so far, and took what was taken of its content.
-use Rattle.std.specs.Prelude.{◌≡◌, ℕ, ◌≤◌, List, [], ◌++◌, map, reverse, Option, Some, None}
+use Rattle.std.specs.Prelude.{◌≡◌, ℕ, ◌≤◌, List, [], ◌++◌, map, Option, Some, None}
 use Rattle.tow_model.specs.declared.request.Request.{Request}
 use Rattle.tow_model.specs.declared.request.Framing.{Framing}
 use Rattle.tow_model.specs.declared.content.Content.{Content}
@@ -20,9 +20,9 @@ use Rattle.tow_progress.specs.Progress.{Progress, Origin, origin_of, unfinished}
 use Rattle.tow_progress.specs.OnWire.{IsOnWire}
 use Rattle.tow_progress.specs.Steps.{open_exchange}
 use Rattle.tow_progress.specs.Accounts.{Tally, KeepsAccount}
-use Rattle.tow_progress.specs.Inside.{KeepsInside}
 use Rattle.tow_wire.specs.Wire.{Met}
 use Rattle.tow_course.specs.Course.{Course, IsOnCourse, outcome_with, verdicts_in}
+use Rattle.tow_states.specs.Leaving.{IsInside}
 
 -- ---- the connection
 
@@ -76,7 +76,7 @@ pub record HasExchange (s : Setting) (c : Progress) (t : Tally) (e : ExchangeDat
   pub calls : t.made ≡ map (entering c.request) n.entries
   pub lines : t.owed ≡ []
   -- it is inside the limits that its listeners leave
-  pub inside : KeepsInside c.request (reverse e.stand.state.listeners) t.calls
+  pub inside : IsInside c.request e t.calls
 
 -- ---- law
 

@@ -1,3 +1,4 @@
+pub mod Leaving
 pub mod Known
 pub mod Reading
 pub mod Walking
@@ -5,6 +6,7 @@ pub mod Opening
 pub mod Gathering
 pub mod Sending
 pub mod Serving
+pub mod Calling
 pub mod Closing
 pub mod Completing
 pub mod Ending

@@ -10,12 +10,13 @@ use Rattle.tow_progress.specs.Accounts.{Tally}
 use Rattle.tow_progress.specs.Cuts.{CutAt}
 use Rattle.tow_progress.specs.Inside.{KeepsInside}
 use Rattle.tow_course.specs.Course.{Course}
+use Rattle.tow_states.specs.Leaving.{left_in}
 use Rattle.tow_states.specs.Known.{Setting, Stands, run_in}
 use Rattle.tow_states.specs.Reading.{IsReading, IsRefusing}
 use Rattle.tow_states.specs.Walking.{IsWalking}
 use Rattle.tow_states.specs.Gathering.{IsGathering}
 use Rattle.tow_states.specs.Sending.{IsSending}
-use Rattle.tow_states.specs.Closing.{IsClosing, Onward, left_in}
+use Rattle.tow_states.specs.Closing.{IsClosing, Onward}
 use Rattle.tow_states.specs.Ending.{IsAtLast, IsCutOff}
 
 pub data State : Type 0 where

@@ -1,11 +1,13 @@
 //! Laws of the definitions, each the contract of a function that does nothing.
 
 ghost use Rattle.tow_states.specs.Breaking.{StatesBreak};
+ghost use Rattle.tow_states.specs.Calling.{CallsHavePlaces};
 ghost use Rattle.tow_states.specs.Closing.{ClosingIsKept};
 ghost use Rattle.tow_states.specs.Completing.{ContentIsShort, ExchangeCompletes};
 ghost use Rattle.tow_states.specs.Ending.{ClosingComesToEnd, CutHasEnded, LastIsDone, ReadingEnds};
 ghost use Rattle.tow_states.specs.Gathering.{ContentIsTaken, WalkComesToContent};
 ghost use Rattle.tow_states.specs.Known.{CourseIsMet};
+ghost use Rattle.tow_states.specs.Leaving.{RequestStaysInside};
 ghost use Rattle.tow_states.specs.Moving.{StatesMove};
 ghost use Rattle.tow_states.specs.Opening.{ExchangeOpens};
 ghost use Rattle.tow_states.specs.Reading.{ReadingBegins, RefusalIsPut, RefusingBegins};
@@ -13,6 +15,11 @@ ghost use Rattle.tow_states.specs.Sending.{AnswerIsDecided, AnswerIsSent};
 ghost use Rattle.tow_states.specs.Serving.{FilesAreOfPages, FoundFilesHaveBytes};
 ghost use Rattle.tow_states.specs.States.{StatesAreSound};
 ghost use Rattle.tow_states.specs.Walking.{WalkIsKept};
+
+/// A request is inside the limits that its listeners leave, whatever the outside tells.
+pub fn request_stays_inside()
+    ensures { RequestStaysInside }
+{}
 
 /// Whatever its content is, the exchange of the wire ends as the course of the open exchange does.
 pub fn course_is_met()
@@ -107,6 +114,11 @@ pub fn files_are_of_pages()
 /// Of a file that a page gives the folder has all the bytes that are told.
 pub fn found_files_have_bytes()
     ensures { FoundFilesHaveBytes }
+{}
+
+/// A list with 34 places for each limit of the text has places for all calls of a request.
+pub fn calls_have_places()
+    ensures { CallsHavePlaces }
 {}
 
 /// In every state what was written is a front of the wire, and a request is inside the limits that it has to leave.
