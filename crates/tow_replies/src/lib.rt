@@ -1,0 +1,11 @@
+//! From an exchange that completed to the answer that is sent: its record goes on into the answer, of which nothing is
+//! copied.
+//!
+//! - `reply`: what is sent, and whether the connection ends after it.
+#![tactic(auto)]
+
+mod reply;
+#[cfg(test)]
+mod tests;
+
+pub use reply::{Reply, reply_to};
