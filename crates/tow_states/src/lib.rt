@@ -25,6 +25,7 @@ mod laws;
 pub use laws::{
     answer_is_decided, answer_is_sent, calls_have_places, closing_comes_to_end, closing_is_kept,
     content_is_short, content_is_taken, course_is_met, cut_has_ended, exchange_completes,
-    exchange_opens, last_is_done, reading_begins, reading_ends, refusal_is_put, refusing_begins,
-    states_are_sound, states_break, states_move, walk_comes_to_content, walk_is_kept,
+    exchange_opens, files_are_of_pages, found_files_have_bytes, last_is_done, reading_begins,
+    reading_ends, refusal_is_put, refusing_begins, request_stays_inside, states_are_sound,
+    states_break, states_move, walk_comes_to_content, walk_is_kept,
 };
