@@ -88,7 +88,7 @@ logs_front x y adds = (map Log adds.0, adds.1)
 
 taken_fronts : (x : Record) (step : Step) → StepAdds x step → StepFronts x step
 taken_fronts x (Go y) adds = logs_front x y adds.0
-taken_fronts x (Stop y) adds = logs_front x y adds
+taken_fronts x (Stop y) adds = logs_front x y adds.0
 
 -- what is waited for
 verdict_widens : (limit : ℕ) (s t : Stand) (next : Way) → Wide next →
