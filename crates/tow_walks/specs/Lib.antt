@@ -1,4 +1,0 @@
-pub mod Folders
-pub mod Walks
-pub mod Staying
-pub mod Sendable
