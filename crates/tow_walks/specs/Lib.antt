@@ -1,0 +1,4 @@
+pub mod Folders
+pub mod Walks
+pub mod Staying
+pub mod Sendable
