@@ -12,8 +12,6 @@ mod advancing;
 mod halt;
 pub mod laws;
 mod looking;
-#[cfg(test)]
-mod tests;
 mod walking;
 
 pub use halt::Halt;
