@@ -5,7 +5,5 @@
 #![tactic(auto)]
 
 mod reply;
-#[cfg(test)]
-mod tests;
 
 pub use reply::{Reply, reply_to};
