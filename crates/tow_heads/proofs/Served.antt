@@ -1,5 +1,5 @@
 -- What is known of a request that a connection serves, and of a head that it refuses.
-use Rattle.std.proofs.Common.{◌≡◌, ℕ, arith, ◌⊎◌, inl, inr, Bool, true, false, ◌&&◌, List, take, drop, Option, Some, None, refl, sym, ap, subst, ◌∙◌, if◌then◌else◌}
+use Rattle.std.proofs.Common.{◌≡◌, ℕ, ◌⊎◌, inl, inr, Bool, true, false, ◌&&◌, List, take, drop, Option, Some, None, refl, sym, ap, subst, ◌∙◌, if◌then◌else◌}
 use Rattle.httparse.specs.Grammar.{RequestHead}
 use Rattle.tow_model.specs.declared.request.Field.{Field}
 use Rattle.tow_model.specs.declared.request.Framing.{Framing}
@@ -29,7 +29,7 @@ connection_is : (h : RequestHead) → connection_refusal h ≡ status_after (ref
 connection_is h = after_is (refusal h) (is_unserved (version_of h) (framing_of (fields_of h)) (fields_of h))
 
 -- a head that is refused in itself is refused by the connection
-refused_in_itself : (input : List ℕ) (status : ℕ) → IsRefusedBy refusal input status → IsRefused input status
+pub refused_in_itself : (input : List ℕ) (status : ℕ) → IsRefusedBy refusal input status → IsRefused input status
 refused_in_itself input status is = record {
   head = is.head;
   rest = is.rest;
