@@ -8,4 +8,3 @@ mod tests;
 mod unserved;
 
 pub use requests::{NextRequest, next_request};
-pub use unserved::is_unserved;

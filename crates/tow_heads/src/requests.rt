@@ -3,6 +3,7 @@
 ghost use Rattle.std.specs.Prelude.{◌≡◌, ◌≤◌, ◌<◌, ℕ, List, [], true, false, length};
 ghost use Rattle.tow_model.specs.declared.limits.TheConstants.{MAX_HEAD_LEN};
 ghost use Rattle.tow_message.specs.Heads.{HasNoHead};
+ghost use Rattle.tow_request.specs.NextHead.{MayGoOn};
 ghost use Rattle.tow_heads.specs.NextRequests.{GoesOnWith};
 
 use crate::unserved::is_unserved;
@@ -32,6 +33,7 @@ pub fn next_request(alloc: Global, bytes: &[u8], ended: bool, peer: u32) -> Next
         → GoesOnWith peer bytes.now left result }
     ensures more { result ≡ NextRequest.More
         → (ended ≡ false) × (length bytes.now < MAX_HEAD_LEN) × HasNoHead bytes.now }
+    ensures waits { result ≡ NextRequest.More → MayGoOn bytes.now }
 {
     match next_head(alloc, bytes, ended, peer) {
         NextHead::Head(request, used) => {

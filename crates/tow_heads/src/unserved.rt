@@ -8,7 +8,7 @@ use tow_text::has_field;
 
 /// Whether the request asks for what a connection does not serve yet, and answers with 501: content, HTTP/1.0, or fields
 /// that decide on persistence or wait for leave to send content. Takes no memory.
-pub fn is_unserved(request: &Request) -> bool
+pub(crate) fn is_unserved(request: &Request) -> bool
     ensures { result ≡ is_unserved request.now.version request.now.framing request.now.fields }
 {
     !matches!(request.framing, Framing::Empty)
