@@ -1,3 +1,3 @@
-pub mod Fronts
+mod Fronts
 pub mod Served
 mod Going
