@@ -1,5 +1,5 @@
 -- How the turns of a connection join.
-use Rattle.std.proofs.Common.{◌≡◌, ℕ, suc, ◌+◌, ◌⊎◌, inl, inr, Bool, true, false, IsTrue, List, [], ◌∷◌, ◌++◌, length, take, drop, Option, None, Some, refl, sym, ◌∙◌, ap, subst, arith, length-append}
+use Rattle.std.proofs.Common.{◌≡◌, ℕ, suc, ◌+◌, Bool, true, false, IsTrue, List, [], ◌∷◌, ◌++◌, length, take, drop, Option, None, Some, refl, sym, ◌∙◌, ap, subst, arith, length-append}
 use Rattle.std.proofs.lemmas.List.{append-nil, take-append-le, take_all}
 use Rattle.std.proofs.Math.Seq.{take-append-add}
 use Rattle.std.specs.Io.KnownBytes.{append_known}
@@ -11,7 +11,7 @@ use Rattle.tow_link.proofs.Appending.{append_known-append}
 use Rattle.tow_model.specs.declared.request.Request.{Request}
 use Rattle.tow_model.specs.declared.statement.Statement.{Statement}
 use Rattle.tow_wire.specs.Answers.{refusal_text}
-use Rattle.tow_message.specs.Stream.{IsBlank, IsNoRequest, IsRefused, ReadsStream}
+use Rattle.tow_message.specs.Stream.{ReadsStream}
 use Rattle.tow_semantics.specs.Sites.{run_of}
 use Rattle.tow_wire.specs.Wire.{wire_from}
 use Rattle.tow_model.specs.declared.account.End.{End}
@@ -20,11 +20,12 @@ use Rattle.tow_conn.specs.declared.progress.Turn.{Turn}
 use Rattle.tow_conn.specs.declared.progress.Turn.TheVariants.{Goes, Ended}
 use Rattle.tow_model.specs.declared.limits.TheConstants.{LOCAL_PEER}
 use Rattle.tow_conn.specs.Conversations.{Leads, Ends, Answers}
-use Rattle.tow_conn.specs.Turns.{Moments, open_bytes, BothTell, LeadsOn, GoesOn, EndIsTold, WritesRest, WritesFront, WritesWire, WritesPart}
+use Rattle.tow_conn.specs.Turns.{Moments, open_bytes, BothTell, LeadsOn, GoesOn, EndIsTold, IsNext, WritesRest, WritesFront, WritesWire, WritesPart}
 use Rattle.tow_conn.proofs.Conversing.{leads_nowhere, leads_same, leads_further, request_leads, request_ends, refusal_ends, blank_ends}
-use Rattle.tow_heads.proofs.Fronts.{IsServed, request_before, refused_before, hopeless_before}
-use Rattle.tow_heads.proofs.Served.{served_head, served_framing, served_expects}
-use Rattle.tow_request.specs.NextHead.{IsHopeless}
+use Rattle.tow_heads.specs.NextRequests.{GoesOnWith}
+use Rattle.tow_heads.specs.declared.requests.NextRequest.{NextRequest}
+use Rattle.tow_heads.specs.declared.requests.NextRequest.TheVariants as next
+use Rattle.tow_heads.proofs.Served.{served_framing, served_expects}
 
 -- where nothing was left, nothing is
 pub still_drained : (old new : Option Told) (bytes : List ℕ) → Moves old new bytes → IsDrained old → IsDrained new
@@ -137,21 +138,28 @@ front_of tree table a b t u o p one = front_after tree table a b t u o p p one (
 
 -- ---- one request, and how the connection ends
 
+-- what is next of bytes is next of the inbox that they are
+pub next_in : (progress : Progress) (bytes : List ℕ) (answer : NextRequest) → bytes ≡ progress.inbox
+    → ((left : List ℕ) → (IsTrue progress.ended → left ≡ []) → GoesOnWith LOCAL_PEER bytes left answer) → IsNext progress answer
+next_in progress bytes answer same reads =
+    subst (λ (l : List ℕ). (left : List ℕ) → (IsTrue progress.ended → left ≡ []) → GoesOnWith LOCAL_PEER l left answer) same reads
+
 -- the first request was answered by the text, which does not close
 pub goes_answered : (tree : List Statement) (table : Moments) (old new : Progress) (told : Option Told) (used : ℕ) (q : Request) (text : List ℕ) (o p : Option (List ℕ))
-    → IsServed (take used old.inbox) LOCAL_PEER q → new.inbox ≡ drop used old.inbox → new.number ≡ old.number + 1
+    → IsNext old (next.Request q used) → EndIsTold old told → new.inbox ≡ drop used old.inbox → new.number ≡ old.number + 1
     → IfSome table (λ moments. Answers (run_of tree [] moments) old.number q text false) → p ≡ append_known o text → GoesOn tree table old new told told o p
-goes_answered tree table old new told used q text o p head inbox number answers appended = record { written = text; appended = appended; leads = by table told answers }
+goes_answered tree table old new told used q text o p is end inbox number answers appended = record { written = text; appended = appended; leads = by table told end answers }
   where
-    by : (table : Moments) (told : Option Told) → IfSome table (λ moments. Answers (run_of tree [] moments) old.number q text false) → LeadsOn tree table old new told told text
-    by table None answers = tt
-    by None (Some t) answers = tt
-    by (Some moments) (Some t) answers =
-        let has = request_before old.inbox t.left used LOCAL_PEER q head in
+    by : (table : Moments) (told : Option Told) → EndIsTold old told → IfSome table (λ moments. Answers (run_of tree [] moments) old.number q text false)
+        → LeadsOn tree table old new told told text
+    by table None end answers = tt
+    by None (Some t) end answers = tt
+    by (Some moments) (Some t) end answers =
+        let has = (is t.left end).2 in
         let plain = served_framing LOCAL_PEER _ q _ has in
         let leads = request_leads (run_of tree [] moments) old.number (open_bytes old t) (drop used old.inbox ++ t.left) q text has plain answers in
-        let next : suc old.number ≡ new.number = omega (arith, number) in
-        subst (λ (n : ℕ). Leads (run_of tree [] moments) old.number (open_bytes old t) text n (open_bytes new t)) next
+        let counted : suc old.number ≡ new.number = omega (arith, number) in
+        subst (λ (n : ℕ). Leads (run_of tree [] moments) old.number (open_bytes old t) text n (open_bytes new t)) counted
         (subst (λ (l : List ℕ). Leads (run_of tree [] moments) old.number (open_bytes old t) text (suc old.number) (l ++ t.left)) (sym inbox) leads)
 
 -- just these bytes are asked for
@@ -160,37 +168,30 @@ AsksFor tree table progress told text = IfSome told (λ t. IfSome table (λ mome
 
 -- the first request was answered by the text, which closes
 pub asks_answered : (tree : List Statement) (table : Moments) (progress : Progress) (told : Option Told) (used : ℕ) (q : Request) (text : List ℕ)
-    → IsServed (take used progress.inbox) LOCAL_PEER q → IfSome table (λ moments. Answers (run_of tree [] moments) progress.number q text true) → AsksFor tree table progress told text
-asks_answered tree table progress None used q text head answers = tt
-asks_answered tree None progress (Some t) used q text head answers = tt
-asks_answered tree (Some moments) progress (Some t) used q text head answers =
-    let has = request_before progress.inbox t.left used LOCAL_PEER q head in
+    → IsNext progress (next.Request q used) → EndIsTold progress told → IfSome table (λ moments. Answers (run_of tree [] moments) progress.number q text true)
+    → AsksFor tree table progress told text
+asks_answered tree table progress None used q text is end answers = tt
+asks_answered tree None progress (Some t) used q text is end answers = tt
+asks_answered tree (Some moments) progress (Some t) used q text is end answers =
+    let has = (is t.left end).2 in
     let plain = served_framing LOCAL_PEER _ q _ has in
     request_ends (run_of tree [] moments) progress.number (open_bytes progress t) (drop used progress.inbox ++ t.left) q text has plain answers
 
 -- a refusal
-pub asks_refusal : (tree : List Statement) (table : Moments) (progress : Progress) (told : Option Told) (status moment : ℕ)
-    → IsRefused progress.inbox status ⊎ ((status ≡ 400) × IsNoRequest progress.inbox × IsHopeless progress.inbox progress.ended)
+pub asks_refusal : (tree : List Statement) (table : Moments) (progress : Progress) (told : Option Told) (status moment : ℕ) → IsNext progress (next.Refuse status)
     → EndIsTold progress told → IfSome table (λ moments. moment ≡ moments 0 progress.number) → AsksFor tree table progress told (refusal_text status moment)
-asks_refusal tree table progress None status moment why end at = tt
-asks_refusal tree None progress (Some t) status moment why end at = tt
-asks_refusal tree (Some moments) progress (Some t) status moment why end at =
+asks_refusal tree table progress None status moment is end at = tt
+asks_refusal tree None progress (Some t) status moment is end at = tt
+asks_refusal tree (Some moments) progress (Some t) status moment is end at =
     subst (λ (m : ℕ). Ends (run_of tree [] moments) progress.number (open_bytes progress t) (refusal_text status m)) (sym at)
-    (refusal_ends (run_of tree [] moments) progress.number (open_bytes progress t) status (by why))
-  where
-    by : IsRefused progress.inbox status ⊎ ((status ≡ 400) × IsNoRequest progress.inbox × IsHopeless progress.inbox progress.ended)
-        → IsRefused (open_bytes progress t) status ⊎ (IsNoRequest (open_bytes progress t) × (status ≡ 400))
-    by (inl is) = inl (refused_before progress.inbox t.left status is)
-    by (inr (is, none, hopeless)) = inr (hopeless_before progress.inbox t.left progress.ended none hopeless end, is)
+    (refusal_ends (run_of tree [] moments) progress.number (open_bytes progress t) status (is t.left end))
 
--- the input ended on line ends alone
-pub asks_nothing : (tree : List Statement) (table : Moments) (progress : Progress) (told : Option Told) → IsBlank progress.inbox → IsTrue progress.ended
-    → EndIsTold progress told → AsksFor tree table progress told []
-asks_nothing tree table progress None blank over end = tt
-asks_nothing tree None progress (Some t) blank over end = tt
-asks_nothing tree (Some moments) progress (Some t) blank over end =
-    subst (λ (l : List ℕ). Ends (run_of tree [] moments) progress.number l []) (sym (ap (λ (l : List ℕ). progress.inbox ++ l) (end over) ∙ append-nil progress.inbox))
-    (blank_ends (run_of tree [] moments) progress.number progress.inbox blank)
+-- nothing more
+pub asks_nothing : (tree : List Statement) (table : Moments) (progress : Progress) (told : Option Told) → IsNext progress next.Nothing → EndIsTold progress told
+    → AsksFor tree table progress told []
+asks_nothing tree table progress None is end = tt
+asks_nothing tree None progress (Some t) is end = tt
+asks_nothing tree (Some moments) progress (Some t) is end = blank_ends (run_of tree [] moments) progress.number (open_bytes progress t) (is t.left end)
 
 pub rest_written : (tree : List Statement) (table : Moments) (progress : Progress) (told : Option Told) (text : List ℕ) (o p : Option (List ℕ))
     → AsksFor tree table progress told text → p ≡ append_known o text → WritesRest tree table progress told o p
@@ -212,14 +213,14 @@ front_rest tree (Some moments) progress (Some t) o p rest = λ stream reads. par
 
 -- a front of the answer to the first request, whether it closes or not
 pub front_answered : (tree : List Statement) (table : Moments) (progress : Progress) (told : Option Told) (used : ℕ) (q : Request) (text : List ℕ) (close : Bool) (o p : Option (List ℕ))
-    → IsServed (take used progress.inbox) LOCAL_PEER q → IfSome table (λ moments. Answers (run_of tree [] moments) progress.number q text close) → AppendsPart o p text
+    → IsNext progress (next.Request q used) → EndIsTold progress told → IfSome table (λ moments. Answers (run_of tree [] moments) progress.number q text close) → AppendsPart o p text
     → WritesFront tree table progress told o p
-front_answered tree table progress told used q text true o p head answers part =
-    front_written tree table progress told text o p (asks_answered tree table progress told used q text head answers) part
-front_answered tree table progress None used q text false o p head answers part = tt
-front_answered tree None progress (Some t) used q text false o p head answers part = tt
-front_answered tree (Some moments) progress (Some t) used q text false o p head answers part = λ stream reads.
-    let has = request_before progress.inbox t.left used LOCAL_PEER q head in
+front_answered tree table progress told used q text true o p is end answers part =
+    front_written tree table progress told text o p (asks_answered tree table progress told used q text is end answers) part
+front_answered tree table progress None used q text false o p is end answers part = tt
+front_answered tree None progress (Some t) used q text false o p is end answers part = tt
+front_answered tree (Some moments) progress (Some t) used q text false o p is end answers part = λ stream reads.
+    let has = (is t.left end).2 in
     let plain = served_framing LOCAL_PEER _ q _ has in
     let then = request_leads (run_of tree [] moments) progress.number (open_bytes progress t) (drop used progress.inbox ++ t.left) q text has plain answers stream reads in
     part_longer o p text _ _ then.2 part
@@ -227,9 +228,8 @@ front_answered tree (Some moments) progress (Some t) used q text false o p head 
 -- ---- from what the clock and the reply tell
 
 -- a request that is served expects nothing
-pub expects_nothing : (bytes : List ℕ) (q : Request) → IsServed bytes LOCAL_PEER q → q.expects ≡ false
-expects_nothing bytes q (is, now) =
-    served_expects LOCAL_PEER bytes q [] (record { head = is.head; reads = is.whole; served = served_head bytes LOCAL_PEER q is now; request = is.request })
+pub expects_nothing : (progress : Progress) (used : ℕ) (q : Request) → IsNext progress (next.Request q used) → q.expects ≡ false
+expects_nothing progress used q is = served_expects LOCAL_PEER _ q _ (is [] (λ over. refl)).2
 
 pub answers_told : (tree : List Statement) (table : Moments) (number moment : ℕ) (q : Request) (text : List ℕ) (close : Bool)
     → IfSome table (λ moments. moment ≡ moments 0 number) → q.expects ≡ false

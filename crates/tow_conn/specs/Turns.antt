@@ -8,6 +8,8 @@ use Rattle.tow_model.specs.declared.statement.Statement.{Statement}
 use Rattle.tow_message.specs.Stream.{Stream, ReadsStream}
 use Rattle.tow_semantics.specs.Sites.{run_of}
 use Rattle.tow_wire.specs.Wire.{wire, wire_from}
+use Rattle.tow_heads.specs.declared.requests.NextRequest.{NextRequest}
+use Rattle.tow_heads.specs.NextRequests.{GoesOnWith}
 use Rattle.tow_conn.specs.declared.progress.Progress.{Progress}
 use Rattle.tow_model.specs.declared.limits.TheConstants.{LOCAL_PEER}
 use Rattle.tow_conn.specs.Conversations.{Leads}
@@ -42,6 +44,11 @@ pub record GoesOn (tree : List Statement) (table : Moments) (old new : Progress)
 -- at the end of the input nothing is left
 abbrev pub EndIsTold : Progress → Option Told → Type 0
 EndIsTold progress told = IsTrue progress.ended → IsDrained told
+
+-- whatever the input has left, it goes on with this; once it has ended, it has nothing left
+abbrev pub IsNext : Progress → NextRequest → Type 0
+IsNext progress answer =
+    (left : List ℕ) → (IsTrue progress.ended → left ≡ []) → GoesOnWith LOCAL_PEER progress.inbox left answer
 
 -- the output gained all that the open bytes ask for
 abbrev pub WritesRest : List Statement → Moments → Progress → Option Told → Option (List ℕ) → Option (List ℕ) → Type 0

@@ -1,15 +1,12 @@
 //! A turn that answers a request or a refusal.
 
-ghost use Rattle.std.specs.Prelude.{◌≡◌, ◌≢◌, ◌≤◌, ◌+◌, ◌⊎◌, ℕ, List, Option, IfSome, IsTrue, false, length, take, drop};
+ghost use Rattle.std.specs.Prelude.{◌≡◌, ◌≢◌, ◌≤◌, ◌+◌, List, Option, IsTrue};
 ghost use Rattle.tow_link.specs.Data.{Rose, Told};
-ghost use Rattle.tow_message.specs.Heads.{Head, is_unserved};
-ghost use Rattle.tow_message.specs.Stream.{IsNoRequest, IsRefused};
-ghost use Rattle.tow_request.specs.NextHead.{IsHopeless};
 ghost use Rattle.tow_site.specs.Built.{is_built};
 ghost use Rattle.tow_site.specs.Compiled.{pattern_texts};
-ghost use Rattle.tow_model.specs.declared.limits.TheConstants.{LOCAL_PEER};
 ghost use Rattle.tow_model.specs.declared.statement.Statement.{Statement};
-ghost use Rattle.tow_conn.specs.Turns.{EndIsTold, GoesOn, WritesRest, WritesFront};
+ghost use Rattle.tow_heads.specs.declared.requests.NextRequest.TheVariants as next;
+ghost use Rattle.tow_conn.specs.Turns.{EndIsTold, GoesOn, IsNext, WritesRest, WritesFront};
 
 use crate::progress::{Progress, Turn};
 use crate::reply::reply_to;
@@ -37,20 +34,17 @@ pub fn answer_request<O: Sink, C: Clock>(
 ) -> Turn
     requires built { IsTrue (is_built site.now.tree) }
     requires scratch { scratch.old ≡ pattern_texts site.now.tree }
-    requires used { used ≤ length progress.old.inbox }
-    requires head { Head (take used progress.old.inbox) LOCAL_PEER request.now }
-    requires served { is_unserved request.now.version request.now.framing request.now.fields
-        ≡ false }
+    requires next { IsNext progress.old (next.Request request.now used) }
     requires number { progress.old.number ≤ 1000 }
     ensures table { C.table clock.new ≡ C.table clock.old }
     ensures scratch { scratch.new ≡ scratch.old }
-    ensures goes { result ≡ Turn.Goes → (told : Option Told)
+    ensures goes { result ≡ Turn.Goes → (told : Option Told) → EndIsTold progress.old told
         → GoesOn site.now.tree (C.table clock.old) progress.old progress.new told told
         (O.shows output.old).written (O.shows output.new).written }
     ensures done { result ≡ Turn.Ended End.Done → (told : Option Told)
-        → WritesRest site.now.tree (C.table clock.old) progress.old told
+        → EndIsTold progress.old told → WritesRest site.now.tree (C.table clock.old) progress.old told
         (O.shows output.old).written (O.shows output.new).written }
-    ensures front { (told : Option Told)
+    ensures front { (told : Option Told) → EndIsTold progress.old told
         → WritesFront site.now.tree (C.table clock.old) progress.old told
         (O.shows output.old).written (O.shows output.new).written }
     ensures next { result ≡ Turn.Goes
@@ -85,9 +79,7 @@ pub fn answer_refusal<O: Sink, C: Clock>(
     progress: &Progress,
     status: u16,
 ) -> End
-    requires why { IsRefused progress.now.inbox status
-        ⊎ ((status ≡ 400) × IsNoRequest progress.now.inbox
-        × IsHopeless progress.now.inbox progress.now.ended) }
+    requires next { IsNext progress.now (next.Refuse status) }
     ensures table { C.table clock.new ≡ C.table clock.old }
     ensures done { result ≡ End.Done → (tree : List Statement) (told : Option Told)
         → EndIsTold progress.now told

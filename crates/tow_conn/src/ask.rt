@@ -11,13 +11,12 @@ use crate::inbox::Inbox;
 use crate::progress::{Progress, Turn};
 use crate::reading::read_more;
 use std::alloc::Global;
-use tow_heads::is_unserved;
+use tow_heads::{NextRequest, next_request};
 use tow_host::Clock;
 use tow_link::{Joined, Sink, Source};
 use tow_model::End;
 use tow_model::limits::LOCAL_PEER;
 use tow_pred::Scratch;
-use tow_request::{NextHead, next_head};
 use tow_site::Site;
 
 /// One turn of a connection: a head that has come is answered, or more of the input is read.
@@ -54,32 +53,27 @@ fn take_turn<I: Source, O: Sink, C: Clock>(
         → Rose (I.shows link.old.input).faults (I.shows link.new.input).faults
         ⊎ Rose (O.shows link.old.output).faults (O.shows link.new.output).faults }
 {
-    match next_head(alloc, progress.inbox.view(), progress.ended, LOCAL_PEER) {
-        NextHead::Head(request, used) => {
-            if is_unserved(&request) {
-                return Turn::Ended(answer_refusal(alloc, &mut link.output, clock, progress, 501));
-            }
-            answer_request(
-                alloc,
-                site,
-                scratch,
-                &mut link.output,
-                clock,
-                progress,
-                &request,
-                used,
-            )
-        }
-        NextHead::Partial => read_more(&mut link.input, progress),
-        NextHead::Nothing => Turn::Ended(End::Done),
-        NextHead::Refuse(status) => Turn::Ended(answer_refusal(
+    match next_request(alloc, progress.inbox.view(), progress.ended, LOCAL_PEER) {
+        NextRequest::Request(request, used) => answer_request(
+            alloc,
+            site,
+            scratch,
+            &mut link.output,
+            clock,
+            progress,
+            &request,
+            used,
+        ),
+        NextRequest::More => read_more(&mut link.input, progress),
+        NextRequest::Nothing => Turn::Ended(End::Done),
+        NextRequest::Refuse(status) => Turn::Ended(answer_refusal(
             alloc,
             &mut link.output,
             clock,
             progress,
             status,
         )),
-        NextHead::NoMemory => Turn::Ended(End::NoMemory),
+        NextRequest::NoMemory => Turn::Ended(End::NoMemory),
     }
 }
 

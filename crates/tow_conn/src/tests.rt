@@ -3,11 +3,9 @@
 use crate::ask_whole;
 use std::alloc::{AllocError, Global};
 use std::test::Fail;
-use tow_heads::is_unserved;
 use tow_host::MemoryClock;
 use tow_link::{Joined, MemorySink, MemorySource, PackMaker};
 use tow_model::End;
-use tow_request::{NextHead, next_head};
 use tow_site::{compile, is_built};
 
 /// How a connection ends under the empty text at the first second, and what it writes.
@@ -92,39 +90,4 @@ fn a_request_is_answered_and_the_rest_refused(rt: HostRuntime) -> Result<(), Fai
     assert_eq!(rt; end, End::Done);
     assert_eq!(rt; written.as_slice(), want.as_slice());
     Ok(())
-}
-
-/// Heads, and whether their requests are not served yet.
-const UNSERVED: [(&[u8], bool); 6] = [
-    (b"GET /a?b HTTP/1.1\r\nHost: a\r\n\r\n", false),
-    (b"GET / HTTP/1.0\r\n\r\n", true),
-    (
-        b"GET / HTTP/1.1\r\nHost: a\r\nContent-Length: 0\r\n\r\n",
-        true,
-    ),
-    (
-        b"GET / HTTP/1.1\r\nHost: a\r\nTransfer-Encoding: chunked\r\n\r\n",
-        true,
-    ),
-    (b"GET / HTTP/1.1\r\nHost: a\r\nCONNECTION: a\r\n\r\n", true),
-    (b"GET / HTTP/1.1\r\nexpect: a\r\nHost: a\r\n\r\n", true),
-];
-
-/// Whether the bytes are a head, and its request is served or not as it should be.
-fn is_told(alloc: Global, head: &[u8], want: bool) -> bool {
-    if head.len() > 65536 {
-        return false;
-    }
-    match next_head(alloc, head, true, 0) {
-        NextHead::Head(request, _used) => is_unserved(&request) == want,
-        _ => false,
-    }
-}
-
-#[test]
-fn what_is_not_served_yet_is_told(rt: HostRuntime) {
-    let alloc = rt.alloc();
-    for (i, (head, want)) in UNSERVED.iter().enumerate() {
-        assert!(rt; is_told(alloc, head, *want), "row {i}");
-    }
 }
