@@ -22,8 +22,8 @@ use Rattle.tow_model.specs.declared.limits.TheConstants.{LOCAL_PEER}
 use Rattle.tow_conn.specs.Conversations.{Leads, Ends, Answers}
 use Rattle.tow_conn.specs.Turns.{Moments, open_bytes, BothTell, LeadsOn, GoesOn, EndIsTold, WritesRest, WritesFront, WritesWire, WritesPart}
 use Rattle.tow_conn.proofs.Conversing.{leads_nowhere, leads_same, leads_further, request_leads, request_ends, refusal_ends, blank_ends}
-use Rattle.tow_conn.proofs.Fronts.{IsServed, request_before, refused_before, hopeless_before}
-use Rattle.tow_conn.proofs.Served.{served_head, served_framing, served_expects}
+use Rattle.tow_heads.proofs.Fronts.{IsServed, request_before, refused_before, hopeless_before}
+use Rattle.tow_heads.proofs.Served.{served_head, served_framing, served_expects}
 use Rattle.tow_request.specs.NextHead.{IsHopeless}
 
 -- where nothing was left, nothing is

@@ -13,7 +13,6 @@ ghost use Rattle.tow_conn.specs.Turns.{EndIsTold, GoesOn, WritesRest, WritesFron
 
 use crate::progress::{Progress, Turn};
 use crate::reply::reply_to;
-use crate::unserved::ONLY_CONNECTION;
 use std::alloc::Global;
 use tow_answer::refusal;
 use tow_host::Clock;
@@ -21,6 +20,9 @@ use tow_link::{Sink, write_all};
 use tow_model::{End, Request};
 use tow_pred::Scratch;
 use tow_site::Site;
+
+/// The number of the one connection there is; its peer is `LOCAL_PEER`.
+const ONLY_CONNECTION: u32 = 0;
 
 /// Writes the answer to a request that is served. If the connection goes on, the `used` bytes of its head leave the inbox.
 pub fn answer_request<O: Sink, C: Clock>(

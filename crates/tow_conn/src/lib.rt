@@ -9,6 +9,5 @@ mod reading;
 mod reply;
 #[cfg(test)]
 mod tests;
-mod unserved;
 
 pub use ask::ask_whole;

@@ -1,9 +1,9 @@
 //! A connection over streams in memory, with the bytes written out.
 
 use crate::ask_whole;
-use crate::unserved::is_unserved;
 use std::alloc::{AllocError, Global};
 use std::test::Fail;
+use tow_heads::is_unserved;
 use tow_host::MemoryClock;
 use tow_link::{Joined, MemorySink, MemorySource, PackMaker};
 use tow_model::End;

@@ -2,7 +2,7 @@ use Rattle.std.proofs.Common.{[], List, ℕ, take, inl, sym, subst, ◌∙◌}
 use Rattle.tow_message.specs.Stream.{IsBlank}
 use Rattle.tow_message.specs.Heads.{Head}
 use Rattle.tow_model.specs.declared.limits.TheConstants.{LOCAL_PEER}
-use Rattle.tow_conn.proofs.Served.{refused_later, same_reason}
+use Rattle.tow_heads.proofs.Served.{refused_later, same_reason}
 use Rattle.tow_conn.proofs.Turning.{asks_nothing, rest_written, append_known-nil, ended_is}
 use Rattle.tow_conn.proofs.ask.take_turn.Goals as goal
 

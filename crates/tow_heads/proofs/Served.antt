@@ -1,5 +1,5 @@
 -- What is known of a request that a connection serves, and of a head that it refuses.
-use Rattle.std.proofs.Common.{◌≡◌, ℕ, arith, ◌⊎◌, inl, inr, Bool, true, false, ◌&&◌, List, take, drop, Option, Some, None, refl, sym, ap, subst, ◌∙◌, if◌then◌else◌}
+use Rattle.std.proofs.Common.{◌≡◌, ℕ, Bool, true, false, ◌&&◌, List, take, drop, Option, Some, None, refl, sym, ap, ◌∙◌, if◌then◌else◌}
 use Rattle.httparse.specs.Grammar.{RequestHead}
 use Rattle.tow_model.specs.declared.request.Field.{Field}
 use Rattle.tow_model.specs.declared.request.Framing.{Framing}
@@ -9,8 +9,7 @@ use Rattle.tow_model.specs.declared.request.Version.{Version}
 use Rattle.tow_model.specs.declared.request.Version.TheVariants.{V10, V11}
 use Rattle.tow_model.specs.Fields.{has}
 use Rattle.tow_message.specs.Heads.{Head, IsRefusedBy, refusal, connection_refusal, is_framed, is_unserved, fields_of, framing_of, version_of, expects_by}
-use Rattle.tow_message.specs.Stream.{HasRequest, IsNoRequest, IsRefused}
-use Rattle.tow_request.specs.NextHead.{IsHopeless}
+use Rattle.tow_message.specs.Stream.{HasRequest, IsRefused}
 use Rattle.tow_model.proofs.Resolving.{neither}
 use Rattle.tow_request.proofs.Fronts.{front_has}
 
@@ -29,25 +28,13 @@ connection_is : (h : RequestHead) → connection_refusal h ≡ status_after (ref
 connection_is h = after_is (refusal h) (is_unserved (version_of h) (framing_of (fields_of h)) (fields_of h))
 
 -- a head that is refused in itself is refused by the connection
-refused_in_itself : (input : List ℕ) (status : ℕ) → IsRefusedBy refusal input status → IsRefused input status
+pub refused_in_itself : (input : List ℕ) (status : ℕ) → IsRefusedBy refusal input status → IsRefused input status
 refused_in_itself input status is = record {
   head = is.head;
   rest = is.rest;
   reads = is.reads;
   refused = connection_is is.head ∙ ap (λ (o : Option ℕ). status_after o (is_unserved (version_of is.head) (framing_of (fields_of is.head)) (fields_of is.head))) is.refused;
 }
-
--- so a look's reason to refuse is the connection's
-pub same_reason : (view inbox : List ℕ) (status : ℕ) (ended : Bool) → view ≡ inbox
-    → IsRefusedBy refusal view status ⊎ ((status ≡ 400) × IsNoRequest view × IsHopeless view ended)
-    → IsRefused inbox status ⊎ ((status ≡ 400) × IsNoRequest inbox × IsHopeless inbox ended)
-same_reason view inbox status ended same why =
-    subst (λ (l : List ℕ). IsRefused l status ⊎ ((status ≡ 400) × IsNoRequest l × IsHopeless l ended)) same (by why)
-  where
-    by : IsRefusedBy refusal view status ⊎ ((status ≡ 400) × IsNoRequest view × IsHopeless view ended)
-        → IsRefused view status ⊎ ((status ≡ 400) × IsNoRequest view × IsHopeless view ended)
-    by (inl is) = inl (refused_in_itself view status is)
-    by (inr none) = inr none
 
 -- the request asks for what is not served yet
 abbrev pub is_later : Request → Bool

@@ -6,12 +6,9 @@ ghost use Rattle.tow_message.specs.Heads.{is_unserved};
 use tow_model::{Framing, Request, Version};
 use tow_text::has_field;
 
-/// The number of the one connection there is; its peer is `LOCAL_PEER`.
-pub const ONLY_CONNECTION: u32 = 0;
-
 /// Whether the request asks for what a connection does not serve yet, and answers with 501: content, HTTP/1.0, or fields
 /// that decide on persistence or wait for leave to send content. Takes no memory.
-pub fn is_unserved(request: &Request) -> bool
+pub(crate) fn is_unserved(request: &Request) -> bool
     ensures { result ≡ is_unserved request.now.version request.now.framing request.now.fields }
 {
     !matches!(request.framing, Framing::Empty)

@@ -8,7 +8,7 @@ use Rattle.httparse.proofs.GrammarLemmas.{ReadsRequest-append}
 use Rattle.tow_model.specs.declared.request.Request.{Request}
 use Rattle.tow_message.specs.Heads.{HasHead, Head, is_unserved}
 use Rattle.tow_message.specs.Stream.{IsBlank, IsNoRequest, IsRefused, HasRequest}
-use Rattle.tow_conn.proofs.Served.{served_head}
+use Rattle.tow_heads.proofs.Served.{served_head}
 use Rattle.tow_request.specs.NextHead.{IsHopeless}
 
 -- a head at the front stays one

@@ -1,0 +1,3 @@
+mod Fronts
+pub mod Served
+mod Going
