@@ -3,10 +3,11 @@
 ghost use Rattle.std.specs.Prelude.{◌≡◌, ◌<◌, Option, IfOk};
 ghost use Rattle.tow_model.specs.Dates.{first_undated};
 ghost use Rattle.tow_model.specs.declared.content.Content.{Content};
+ghost use Rattle.tow_semantics.specs.Files.{Files};
 ghost use Rattle.tow_semantics.specs.Runs.{Ending};
 ghost use Rattle.tow_wire.specs.Answers.{answer_of};
 ghost use Rattle.tow_answer.specs.Uses.{IsUsed};
-ghost use Rattle.tow_sending.specs.Pieces.{IsAskable};
+ghost use Rattle.tow_sending.specs.Pieces.{HasFile, HasParts, IsAskable};
 ghost use Rattle.tow_replies.specs.Replies.{RepliesBy, Sends};
 
 use std::alloc::Global;
@@ -33,8 +34,10 @@ pub fn reply_to(
 ) -> Result<Reply, NoMemory>
     requires dated { completed.now.moment < first_undated }
     requires askable { IsAskable state.choice }
-    ensures { IfOk result (λ reply. RepliesBy content_use completed.now state reply.sending
+    ensures reply { IfOk result (λ reply. RepliesBy content_use completed.now state reply.sending
         reply.closes) }
+    ensures there { (files : Files) → HasFile files state.choice
+        → IfOk result (λ reply. HasParts files reply.sending) }
 {
     reply_with(
         alloc,
@@ -57,9 +60,11 @@ fn reply_with(
 ) -> Result<Reply, NoMemory>
     requires dated { moment < first_undated }
     requires askable { IsAskable state.choice }
-    ensures { IfOk result (λ reply. (content : Option Content) (o : Ending) → o.state ≡ state
+    ensures reply { IfOk result (λ reply. (content : Option Content) (o : Ending) → o.state ≡ state
         → IsUsed content_use content o → Sends request.now
         (answer_of request.now number moment content o) reply.sending reply.closes) }
+    ensures there { (files : Files) → HasFile files state.choice
+        → IfOk result (λ reply. HasParts files reply.sending) }
 {
     let answer = answer_to(alloc, request, number, moment, content_use, state)?;
     let closes = answer.close;

@@ -9,8 +9,9 @@ ghost use Rattle.tow_link.specs.Data.{Rose};
 ghost use Rattle.tow_advance.specs.Knowing.{program_patterns};
 ghost use Rattle.tow_advance.specs.Moves.{walk_left};
 ghost use Rattle.tow_advance.specs.Needs.{StaysForWorker, need_in};
+ghost use Rattle.tow_course.specs.Course.{Advances};
 ghost use Rattle.tow_walks.specs.Folders.{FolderStays, faults_by, may_look, told_by};
-ghost use Rattle.tow_walks.specs.Walks.{HaltsAt, IsCutShort, Keeps, Walks, halt_of};
+ghost use Rattle.tow_walks.specs.Walks.{BreaksOff, HaltsAt, IsCutShort, Keeps, Walks, halt_of};
 
 use crate::advancing::go_on;
 use crate::halt::Halt;
@@ -46,6 +47,12 @@ pub fn walk<F: Folder>(
     ensures short { result ≡ Halt.NoMemory → (tree : List Statement)
         → program.now ≡ program_of tree
         → IsCutShort tree (told_by F.shows folder.old) exchange.old exchange.new }
+    ensures advances { may_look role folder.old ≡ false → result ≢ Halt.NoMemory
+        → (tree : List Statement) → program.now ≡ program_of tree
+        → Advances tree exchange.old exchange.new }
+    ensures breaks { may_look role folder.old ≡ false → result ≡ Halt.NoMemory
+        → (tree : List Statement) → program.now ≡ program_of tree
+        → BreaksOff tree exchange.old exchange.new }
     ensures keeps { Keeps program.now exchange.old exchange.new }
     ensures stays { StaysForWorker role exchange.old.stand.mark exchange.old exchange.new }
     ensures asks { may_look role folder.old ≡ false → folder.new ≡ folder.old }
@@ -87,6 +94,12 @@ fn turn<F: Folder>(
     ensures short { result ≡ Some Halt.NoMemory → (tree : List Statement)
         → program.now ≡ program_of tree
         → IsCutShort tree (told_by F.shows folder.old) exchange.old exchange.new }
+    ensures advances { may_look role folder.old ≡ false → result ≢ Some Halt.NoMemory
+        → (tree : List Statement) → program.now ≡ program_of tree
+        → Advances tree exchange.old exchange.new }
+    ensures breaks { may_look role folder.old ≡ false → result ≡ Some Halt.NoMemory
+        → (tree : List Statement) → program.now ≡ program_of tree
+        → BreaksOff tree exchange.old exchange.new }
     ensures keeps { Keeps program.now exchange.old exchange.new }
     ensures stays { StaysForWorker role exchange.old.stand.mark exchange.old exchange.new }
     ensures asks { may_look role folder.old ≡ false → folder.new ≡ folder.old }

@@ -9,8 +9,8 @@ use Rattle.tow_replies.specs.Replies.{Sends}
 use Rattle.tow_replies.proofs.Replying.{replies_by}
 use Rattle.tow_replies.proofs.reply.reply_to.Goals as goal
 
-pub returns : goal.returns
-returns c =
+pub returns-clause-reply : goal.returns-clause-reply
+returns-clause-reply c =
     let d = c.args.completed.now in
     let request : c.request.result.now ≡ d.request = search rules in
     let number : c.number.result ≡ d.number = search rules in
@@ -22,4 +22,4 @@ returns c =
     → Sends d.request (answer_of d.request j c.moment.result content o) reply.sending reply.closes) number
     (subst (λ (q : Request). (content : Option Content) (o : Ending) → o.state ≡ c.args.state → IsUsed c.args.content_use content o
     → Sends q (answer_of q c.number.result c.moment.result content o) reply.sending reply.closes) request sends))))
-    c.reply_with.ensures
+    c.reply_with.ensures.reply

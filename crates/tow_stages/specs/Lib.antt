@@ -1,0 +1,9 @@
+pub mod Stages
+pub mod Holding
+pub mod Moving
+pub mod Opening
+pub mod Walking
+pub mod Gathering
+pub mod Answering
+pub mod Closing
+pub mod Ending
