@@ -6,7 +6,7 @@
 //! |---|---|
 //! | `look PATH` | `file LENGTH SECOND`, `directory` or `absent` |
 //! | `read PATH FROM ROOM` | `got BYTES`: what one read of at most `ROOM` bytes gave |
-//! | `names PATH` | `names` and each name, a directory's with a `/` behind it |
+//! | `names PATH` | `names` and each name, a directory's with a `/` after it |
 //! | `faults` | `faults COUNT` |
 //!
 //! Paths, bytes and names are percent-encoded. An answer may also be `failed`, or `not askable` for
