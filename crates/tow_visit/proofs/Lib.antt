@@ -1,0 +1,3 @@
+pub mod Askable
+pub mod Failing
+pub mod Writing
