@@ -1,0 +1,21 @@
+//! The steps of a connection that is served by turns: what it does in each stage.
+//!
+//! - `stage`: how far it has come; `base`: what it has beside that.
+//! - `filling`: the link is read, and written.
+//! - `refusing`: what it does in each stage.
+//! - `turn`: what a turn ends with; `role`: whose turn it is.
+#![tactic(auto)]
+
+mod base;
+mod filling;
+mod refusing;
+mod role;
+mod stage;
+mod turn;
+
+pub use base::Base;
+pub use filling::{fill, write};
+pub use refusing::refuse_on;
+pub use role::is_loop;
+pub use stage::{Answering, Asking, Completing, Refusal, Stage, Then};
+pub use turn::Turn;
