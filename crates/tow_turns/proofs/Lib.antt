@@ -1,2 +1,3 @@
 pub mod PortSteps
 pub mod Refusals
+pub mod Tellings

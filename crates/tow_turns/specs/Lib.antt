@@ -1,3 +1,4 @@
 pub mod Roles
 pub mod Data
 pub mod Steps
+pub mod Logging

@@ -2,11 +2,12 @@
 //!
 //! - `stage`: how far it has come; `base`: what it has beside that.
 //! - `filling`: the link is read, and written.
-//! - `refusing`: what it does in each stage.
+//! - `refusing`, `closing`: what it does in each stage.
 //! - `turn`: what a turn ends with; `role`: whose turn it is.
 #![tactic(auto)]
 
 mod base;
+mod closing;
 mod filling;
 mod refusing;
 mod role;
@@ -14,6 +15,7 @@ mod stage;
 mod turn;
 
 pub use base::Base;
+pub use closing::close_on;
 pub use filling::{fill, write};
 pub use refusing::refuse_on;
 pub use role::is_loop;
