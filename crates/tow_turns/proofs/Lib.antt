@@ -1,3 +1,5 @@
 pub mod PortSteps
 pub mod Refusals
 pub mod Tellings
+pub mod Cuts
+pub mod Decisions

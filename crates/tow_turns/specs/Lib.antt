@@ -2,3 +2,4 @@ pub mod Roles
 pub mod Data
 pub mod Steps
 pub mod Logging
+pub mod Cuts

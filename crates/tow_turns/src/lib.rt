@@ -3,11 +3,14 @@
 //! - `stage`: how far it has come; `base`: what it has beside that.
 //! - `filling`: the link is read, and written.
 //! - `refusing`, `closing`: what it does in each stage.
+//! - `deciding`: from an exchange to its answer, or to its closing work; `cutting`: the connection is cut.
 //! - `turn`: what a turn ends with; `role`: whose turn it is.
 #![tactic(auto)]
 
 mod base;
 mod closing;
+mod cutting;
+mod deciding;
 mod filling;
 mod refusing;
 mod role;
@@ -16,6 +19,7 @@ mod turn;
 
 pub use base::Base;
 pub use closing::close_on;
+pub use cutting::cut;
 pub use filling::{fill, write};
 pub use refusing::refuse_on;
 pub use role::is_loop;
