@@ -3,3 +3,4 @@ pub mod Refusals
 pub mod Tellings
 pub mod Cuts
 pub mod Decisions
+pub mod Sends

@@ -3,3 +3,4 @@ pub mod Data
 pub mod Steps
 pub mod Logging
 pub mod Cuts
+pub mod Folders
