@@ -4,3 +4,4 @@ pub mod Tellings
 pub mod Cuts
 pub mod Decisions
 pub mod Sends
+pub mod Asks

@@ -2,12 +2,13 @@
 //!
 //! - `stage`: how far it has come; `base`: what it has beside that.
 //! - `filling`: the link is read, and written.
-//! - `refusing`, `answering`, `closing`: what it does in each stage.
+//! - `refusing`, `asking`, `answering`, `closing`: what it does in each stage.
 //! - `deciding`: from an exchange to its answer, or to its closing work; `cutting`: the connection is cut.
 //! - `turn`: what a turn ends with; `role`: whose turn it is.
 #![tactic(auto)]
 
 mod answering;
+mod asking;
 mod base;
 mod closing;
 mod cutting;
@@ -19,6 +20,7 @@ mod stage;
 mod turn;
 
 pub use answering::put_next;
+pub use asking::{ask, invite};
 pub use base::Base;
 pub use closing::close_on;
 pub use cutting::cut;
