@@ -1,0 +1,7 @@
+pub mod PortSteps
+pub mod Refusals
+pub mod Tellings
+pub mod Cuts
+pub mod Decisions
+pub mod Sends
+pub mod Asks

@@ -1,0 +1,13 @@
+use Rattle.std.proofs.Common.{◌≡◌, subst, ap, ◌∙◌}
+use Rattle.tow_model.specs.declared.request.Request.{Request}
+use Rattle.tow_source.specs.Readings.{unread}
+use Rattle.tow_content.specs.Gatherings.{Gathers}
+use Rattle.tow_states.specs.Gathering.{is_to_be_told}
+use Rattle.tow_turns.proofs.Asks.{asked}
+use Rattle.tow_turns.proofs.asking.ask.Goals as goal
+
+pub returns : goal.returns
+returns c =
+    λ s b. asked s b c.args.exchange c.new-gathering.result c.is_to_be_told-to_invite.result c.requires.waits
+    (subst (λ (q : Request). Gathers c.new-gathering.result (unread q.framing)) c.request-asked.ensures c.new-gathering.ensures)
+    (c.is_to_be_told-to_invite.ensures ∙ ap is_to_be_told c.request-asked.ensures)

@@ -1,0 +1,6 @@
+pub mod Roles
+pub mod Data
+pub mod Steps
+pub mod Logging
+pub mod Cuts
+pub mod Folders
