@@ -1,5 +1,5 @@
 -- A content that nobody asked for is dropped.
-use Rattle.std.proofs.Common.{◌≡◌, ◌⊎◌, ℕ, Bool, true, List, [], Option, Some, None, refl, sym, ap, subst, ◌∙◌}
+use Rattle.std.proofs.Common.{◌≡◌, ◌⊎◌, ℕ, Bool, true, false, if◌then◌else◌, List, [], Option, Some, None, refl, sym, ap, subst, ◌∙◌}
 use Rattle.circular_buffer.specs.Buffer.{Buffer}
 use Rattle.tow_model.specs.declared.account.End.TheVariants.{Done}
 use Rattle.tow_source.specs.Readings.{DrainsPipe, Onward, Reading}
@@ -88,3 +88,12 @@ reads_on s b d pieces closes drain p fills failed o c t h =
     let r : IsRead p c = fills c h.is_at.port in
     comes_to failed s o (over p b) (answering d pieces closes drain) (read_in r.bytes r.left c) t
     (reads_lead_on failed s o b (answering d pieces closes drain) c t h tt p r)
+
+-- all was put and written, and nothing is dropped
+pub completes_on : (s : Setting) (b : Base) (d : ClosingData) (closes : Bool) → b.port.output.items ≡ []
+    → Leads s b b (answering d [] closes None) (closing d None (if closes then Some Done else None))
+completes_on s b d true out failed o c t h =
+    comes_to failed s o b (closing d None (Some Done)) c t
+    ((answerings_lead_on failed s o b d [] true None c t h).ends refl refl refl out)
+completes_on s b d false out failed o c t h =
+    comes_to failed s o b (closing d None None) c t ((answerings_lead_on failed s o b d [] false None c t h).completes refl refl refl)

@@ -25,6 +25,7 @@ pub use asking::{ask, invite};
 pub use base::Base;
 pub use closing::close_on;
 pub use cutting::cut;
+pub use dropping::leave_on;
 pub use filling::{fill, write};
 pub use refusing::refuse_on;
 pub use role::is_loop;
