@@ -1,5 +1,5 @@
 -- A content that nobody asked for is dropped.
-use Rattle.std.proofs.Common.{◌≡◌, ◌⊎◌, ℕ, Bool, true, false, if◌then◌else◌, List, [], Option, Some, None, refl, sym, ap, subst, ◌∙◌}
+use Rattle.std.proofs.Common.{◌≡◌, ◌⊎◌, ℕ, Bool, true, false, if◌then◌else◌, List, [], Option, Some, None, refl, ◌∙◌}
 use Rattle.circular_buffer.specs.Buffer.{Buffer}
 use Rattle.tow_model.specs.declared.account.End.TheVariants.{Done}
 use Rattle.tow_source.specs.Readings.{DrainsPipe, Onward, Reading}
@@ -9,14 +9,12 @@ use Rattle.tow_source.specs.declared.drain.Drain.{Drain}
 use Rattle.tow_content.specs.declared.source.ContentSource.{ContentSource}
 use Rattle.tow_content.specs.Sources.{ReadsContent}
 use Rattle.tow_closing.specs.Closings.{ClosingData}
-use Rattle.tow_progress.specs.Steps.{read_in, taken}
+use Rattle.tow_progress.specs.Steps.{read_in}
 use Rattle.tow_progress.specs.Progress.{Progress}
 use Rattle.tow_sending.specs.Pieces.{Piece}
 use Rattle.tow_states.specs.Known.{Setting}
 use Rattle.tow_leads.specs.Ports.{IsPortOf, IsRead, PortData}
-use Rattle.tow_stages.specs.Answering.{DropLeadsOn}
 use Rattle.tow_stages.specs.Stages.{Base, Stage, answering, closing}
-use Rattle.tow_stages.specs.Holding.{Holds}
 use Rattle.tow_stages.specs.Moving.{over}
 use Rattle.tow_stages.proofs.Answers.{answerings_lead_on}
 use Rattle.tow_stages.proofs.Moves.{reads_lead_on}

@@ -1,9 +1,9 @@
-use Rattle.std.proofs.Common.{◌≡◌, ◌⊎◌, inl, inr, ℕ, ◌<◌, ◌-◌, List, [], Option, Some, None, length, refl, sym, subst, ap, ◌∙◌, arith}
+use Rattle.std.proofs.Common.{List, [], Some, None, sym, subst}
 use Rattle.tow_model.specs.declared.account.End.TheVariants.{Done}
 use Rattle.tow_sending.specs.Pieces.{Piece}
 use Rattle.tow_stages.specs.Stages as model
 use Rattle.tow_stages.specs.Moving.{over}
-use Rattle.tow_turns.specs.Data.{base_of, port_of, stage_of}
+use Rattle.tow_turns.specs.Data.{base_of, port_of}
 use Rattle.tow_turns.specs.Steps.{Leads}
 use Rattle.tow_turns.proofs.Drops.{drop_goes_on, reads_on, taken_by, then_on}
 use Rattle.tow_turns.proofs.dropping.drop_on.Goals as goal

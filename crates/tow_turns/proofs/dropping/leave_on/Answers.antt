@@ -1,6 +1,5 @@
-use Rattle.std.proofs.Common.{◌≡◌, ◌≤◌, ℕ, List, [], Bool, if◌then◌else◌, Option, Some, None, length, sym, subst, ap, ◌∙◌, arith}
+use Rattle.std.proofs.Common.{List, [], Option, None, sym, subst, arith}
 use Rattle.std.proofs.lemmas.List.{nil_from_length}
-use Rattle.tow_model.specs.declared.account.End.TheVariants.{Done}
 use Rattle.tow_source.specs.declared.drain.Drain.{Drain}
 use Rattle.tow_content.specs.declared.source.ContentSource.{ContentSource}
 use Rattle.tow_sending.specs.Pieces.{Piece}
