@@ -1,6 +1,6 @@
 -- An exchange comes to wait for its content, and its client is told to send it.
-use Rattle.std.proofs.Common.{◌≡◌, ℕ, Bool, true, false, List, ◌++◌, refl, sym, ap, subst, ◌∙◌}
-use Rattle.circular_buffer.specs.Buffer.{Buffer, buffer}
+use Rattle.std.proofs.Common.{◌≡◌, ℕ, Bool, true, false, refl, sym, ap, subst, ◌∙◌}
+use Rattle.circular_buffer.specs.Buffer.{Buffer}
 use Rattle.tow_peer.specs.Links.{LinkData}
 use Rattle.tow_port.specs.declared.port.Port.{Port}
 use Rattle.tow_wire.specs.Answers.{continue_text}

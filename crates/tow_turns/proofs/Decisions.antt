@@ -1,8 +1,7 @@
 -- An exchange that has stopped comes to its answer.
-use Rattle.std.proofs.Common.{◌≡◌, ℕ, Bool, List, Option, Some, None, refl, sym, ap, subst, ◌∙◌}
+use Rattle.std.proofs.Common.{◌≡◌, Bool, List, Option, Some, None, sym, ap, subst, ◌∙◌}
 use Rattle.tow_model.specs.declared.account.End.TheVariants.{NoMemory}
 use Rattle.tow_model.specs.declared.record.Record.{Record}
-use Rattle.tow_model.specs.declared.record.Choice.{Choice}
 use Rattle.tow_model.specs.declared.statement.Statement.{Statement}
 use Rattle.tow_semantics.specs.Files.{Files}
 use Rattle.tow_exchange.specs.Exchanges.{ExchangeData}

@@ -5,3 +5,4 @@ pub mod Cuts
 pub mod Decisions
 pub mod Sends
 pub mod Asks
+pub mod Drops

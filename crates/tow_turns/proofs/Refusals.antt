@@ -1,16 +1,14 @@
 -- The answer to a head that is refused is put.
-use Rattle.std.proofs.Common.{◌≡◌, ℕ, Bool, List, [], ◌++◌, take, drop, refl, sym, ap, subst, ◌∙◌}
+use Rattle.std.proofs.Common.{◌≡◌, ℕ, List, [], ◌++◌, take, drop, refl, sym, ap, subst, ◌∙◌}
 use Rattle.std.proofs.lemmas.List.{take-append-drop}
 use Rattle.circular_buffer.specs.Buffer.{Buffer, buffer}
-use Rattle.tow_progress.specs.Progress.{Progress, Origin}
 use Rattle.tow_progress.specs.Steps.{with_piece}
-use Rattle.tow_progress.specs.Accounts.{Tally}
 use Rattle.tow_states.specs.Known.{Setting}
 use Rattle.tow_model.specs.declared.account.End.TheVariants.{Done}
-use Rattle.tow_stages.specs.Stages.{Base, Stage, ended, refusing}
+use Rattle.tow_stages.specs.Stages.{Base, ended, refusing}
 use Rattle.tow_stages.specs.Holding.{Holds}
 use Rattle.tow_stages.proofs.Heads.{refusals_lead_on}
-use Rattle.tow_turns.specs.Steps.{Comes, Leads}
+use Rattle.tow_turns.specs.Steps.{Leads}
 
 -- with another pipe of output
 abbrev pub fed_to : Buffer ℕ → Base → Base

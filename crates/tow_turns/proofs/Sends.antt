@@ -1,5 +1,5 @@
 -- The next piece of an answer is put.
-use Rattle.std.proofs.Common.{◌≡◌, ◌≢◌, ℕ, Bool, true, false, nat_lt, List, [], ◌∷◌, length, drop, if◌then◌else◌, Option, Some, None, refl, sym, ap, subst, ◌∙◌}
+use Rattle.std.proofs.Common.{◌≡◌, ◌≢◌, ℕ, Bool, true, false, nat_lt, List, [], ◌∷◌, length, drop, if◌then◌else◌, Option, Some, refl, sym, ap, subst, ◌∙◌}
 use Rattle.circular_buffer.specs.Buffer.{Buffer}
 use Rattle.tow_semantics.specs.Files.{Files}
 use Rattle.tow_folder.specs.Folders.{FolderData}

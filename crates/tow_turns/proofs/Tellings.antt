@@ -1,5 +1,5 @@
 -- The listeners of an exchange run, and tell their lines.
-use Rattle.std.proofs.Common.{◌≡◌, ◌⊎◌, inl, inr, ◌≤◌, ℕ, Bool, true, false, List, [], ◌∷◌, ◌++◌, All, Option, Some, None, option_map, refl, sym, ap, subst, ◌∙◌, append-nil, arith}
+use Rattle.std.proofs.Common.{◌≡◌, inl, inr, ℕ, Bool, true, false, List, [], ◌∷◌, ◌++◌, Option, Some, None, option_map, refl, sym, ap, subst, ◌∙◌, append-nil, arith}
 use Rattle.std.proofs.lemmas.List.Elements.{All-cons, All-nil}
 use Rattle.tow_model.specs.Texts.{Text}
 use Rattle.tow_model.specs.declared.account.Line.{Line}
@@ -8,8 +8,8 @@ use Rattle.tow_model.specs.declared.account.End.TheVariants.{NoMemory}
 use Rattle.tow_closing.specs.Closings.{ClosingData, Does}
 use Rattle.tow_closing.specs.declared.work.Work.TheVariants as work
 use Rattle.tow_link.specs.Data.{Rose}
-use Rattle.tow_faults.specs.Faults.{KeepsOtherFaults, faults_for}
-use Rattle.tow_host.specs.Logs.{LogData, PutAdds, line_told, with_line}
+use Rattle.tow_faults.specs.Faults.{faults_for}
+use Rattle.tow_host.specs.Logs.{LogData, PutAdds, line_told}
 use Rattle.tow_host.specs.declared.log_sink.Put.TheVariants.{Stored, Failed}
 use Rattle.tow_progress.specs.Progress.{Progress, Origin}
 use Rattle.tow_progress.specs.Accounts.{Tally, settled, stored}
@@ -18,10 +18,10 @@ use Rattle.tow_states.specs.Known.{Setting}
 use Rattle.tow_states.specs.Closing.{line_at}
 use Rattle.tow_stages.specs.Stages.{Base, Stage, closing, ended, reading}
 use Rattle.tow_stages.specs.Holding.{Holds}
-use Rattle.tow_stages.specs.Closing.{ClosingLeadsOn, LossLeadsOn, silenced}
+use Rattle.tow_stages.specs.Closing.{silenced}
 use Rattle.tow_stages.proofs.Closes.{closings_lead_on}
 use Rattle.tow_stages.proofs.Ends.{failures_lead_on}
-use Rattle.tow_turns.specs.Logging.{Gains, FailsFor, KeepsFaults, LeadsTelling, Tells}
+use Rattle.tow_turns.specs.Logging.{Gains, KeepsFaults, LeadsTelling, Tells}
 
 -- ---- a log that is as it was
 

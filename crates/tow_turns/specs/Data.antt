@@ -1,5 +1,5 @@
 -- The stage of a connection, and what it has beside that, as the definitions see them.
-use Rattle.std.specs.Prelude.{ℕ, List, drop}
+use Rattle.std.specs.Prelude.{drop}
 use Rattle.std.specs.Vec.{vec_capacity}
 use Rattle.tow_peer.specs.Links.{LinkData}
 use Rattle.tow_port.specs.declared.port.Port.{Port}

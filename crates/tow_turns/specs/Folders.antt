@@ -4,7 +4,6 @@ use Rattle.std.specs.Option.{ForSome}
 use Rattle.tow_semantics.specs.Files.{Files}
 use Rattle.tow_folder.specs.Folders.{FolderData}
 use Rattle.tow_sending.specs.Pieces.{HasParts, Piece}
-use Rattle.tow_walks.specs.Folders.{told_by}
 
 -- a folder that is there tells just these files
 abbrev pub IsFolderOf : {F : Type 0} → (F → FolderData) → Option F → Files → Type 0

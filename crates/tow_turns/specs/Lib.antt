@@ -4,3 +4,4 @@ pub mod Steps
 pub mod Logging
 pub mod Cuts
 pub mod Folders
+pub mod Contents

@@ -2,7 +2,7 @@
 //!
 //! - `stage`: how far it has come; `base`: what it has beside that.
 //! - `filling`: the link is read, and written.
-//! - `refusing`, `asking`, `answering`, `closing`: what it does in each stage.
+//! - `refusing`, `asking`, `answering`, `dropping`, `closing`: what it does in each stage.
 //! - `deciding`: from an exchange to its answer, or to its closing work; `cutting`: the connection is cut.
 //! - `turn`: what a turn ends with; `role`: whose turn it is.
 #![tactic(auto)]
@@ -13,6 +13,7 @@ mod base;
 mod closing;
 mod cutting;
 mod deciding;
+mod dropping;
 mod filling;
 mod refusing;
 mod role;
@@ -24,6 +25,7 @@ pub use asking::{ask, invite};
 pub use base::Base;
 pub use closing::close_on;
 pub use cutting::cut;
+pub use dropping::leave_on;
 pub use filling::{fill, write};
 pub use refusing::refuse_on;
 pub use role::is_loop;

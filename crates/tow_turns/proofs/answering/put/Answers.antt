@@ -1,4 +1,4 @@
-use Rattle.std.proofs.Common.{◌≡◌, ℕ, Option, None, Some, refl, sym, subst, ap, ◌∙◌}
+use Rattle.std.proofs.Common.{Option, None, Some, refl, sym, subst, ap, ◌∙◌}
 use Rattle.tow_semantics.specs.Files.{Files}
 use Rattle.tow_sending.specs.Pieces.{Puts, room_of}
 use Rattle.tow_walks.specs.Folders.{told_by}

@@ -1,6 +1,5 @@
-use Rattle.std.proofs.Common.{◌≡◌, Option, sym, subst}
+use Rattle.std.proofs.Common.{Option, sym, subst}
 use Rattle.tow_semantics.specs.Files.{Files}
-use Rattle.tow_walks.specs.Folders.{told_by}
 use Rattle.tow_turns.specs.Data.{base_of}
 use Rattle.tow_turns.specs.Folders.{HasPartsIn}
 use Rattle.tow_turns.proofs.Sends.{parts_left, put_leads}

@@ -1,4 +1,4 @@
-use Rattle.std.proofs.Common.{◌≡◌, subst, ap, ◌∙◌}
+use Rattle.std.proofs.Common.{subst, ap, ◌∙◌}
 use Rattle.tow_model.specs.declared.request.Request.{Request}
 use Rattle.tow_source.specs.Readings.{unread}
 use Rattle.tow_content.specs.Gatherings.{Gathers}

@@ -1,5 +1,5 @@
-use Rattle.std.proofs.Common.{◌≡◌, ℕ, ◌++◌, refl, sym, subst, ◌∙◌, ap}
-use Rattle.circular_buffer.specs.Buffer.{Buffer, buffer}
+use Rattle.std.proofs.Common.{ℕ, ◌++◌, sym, ◌∙◌, ap}
+use Rattle.circular_buffer.specs.Buffer.{buffer}
 use Rattle.tow_wire.specs.Answers.{continue_text}
 use Rattle.tow_turns.specs.Data.{base_of, port_of, stage_of}
 use Rattle.tow_turns.specs.declared.stage.Stage.TheVariants as stage

@@ -1,4 +1,4 @@
-use Rattle.std.proofs.Common.{◌≡◌, ℕ, Option, None, Some, sym, subst}
+use Rattle.std.proofs.Common.{ℕ, Option, Some, sym, subst}
 use Rattle.tow_stages.specs.Stages as model
 use Rattle.tow_turns.specs.Data.{base_of, stage_of}
 use Rattle.tow_turns.specs.Logging.{LeadsTelling}

@@ -1,4 +1,4 @@
-use Rattle.std.proofs.Common.{◌≡◌, ℕ, Option, None, Some, option_map, sym, subst}
+use Rattle.std.proofs.Common.{Some, option_map, sym, subst}
 use Rattle.tow_turns.specs.Data.{base_of, stage_of}
 use Rattle.tow_turns.specs.Logging.{LeadsTelling}
 use Rattle.tow_turns.specs.declared.stage.Stage.TheVariants as stage

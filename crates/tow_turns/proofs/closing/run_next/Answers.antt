@@ -1,4 +1,4 @@
-use Rattle.std.proofs.Common.{◌≡◌, ℕ, Option, None, Some, sym, subst}
+use Rattle.std.proofs.Common.{Option, None, Some, sym, subst}
 use Rattle.tow_model.specs.declared.account.End.{End}
 use Rattle.tow_closing.specs.Closings.{Does}
 use Rattle.tow_closing.specs.declared.work.Work.{Work}

@@ -1,4 +1,4 @@
-use Rattle.std.proofs.Common.{◌≡◌, ℕ, List, Option, refl, subst}
+use Rattle.std.proofs.Common.{ℕ, List, Option, refl, subst}
 use Rattle.tow_model.specs.Texts.{Text}
 use Rattle.tow_closing.specs.Closings.{Does}
 use Rattle.tow_closing.specs.declared.work.Work.TheVariants as work

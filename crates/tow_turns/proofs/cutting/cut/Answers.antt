@@ -1,5 +1,4 @@
-use Rattle.std.proofs.Common.{◌≡◌, ◌≢◌, sym, subst}
-use Rattle.tow_model.specs.declared.account.End.{End}
+use Rattle.std.proofs.Common.{◌≡◌, sym, subst}
 use Rattle.tow_states.specs.Known.{Setting}
 use Rattle.tow_stages.specs.Stages as model
 use Rattle.tow_turns.specs.declared.stage.Stage.{Stage}

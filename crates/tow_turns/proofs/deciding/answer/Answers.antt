@@ -1,8 +1,7 @@
-use Rattle.std.proofs.Common.{◌≡◌, sym, subst, ap}
+use Rattle.std.proofs.Common.{sym, subst, ap}
 use Rattle.tow_model.specs.declared.request.Request.{Request}
 use Rattle.tow_exchange.specs.Completions.{CompletedData}
 use Rattle.tow_replies.specs.Replies.{RepliesBy}
-use Rattle.tow_states.specs.Known.{Setting}
 use Rattle.tow_turns.specs.Data.{stage_of}
 use Rattle.tow_turns.proofs.Decisions.{IsTaken, has_its_file, is_answered, is_short}
 use Rattle.tow_turns.proofs.deciding.answer.Goals as goal
