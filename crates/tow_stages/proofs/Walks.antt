@@ -38,7 +38,7 @@ use Rattle.tow_stages.proofs.Answers.{answer_begins, follows_cut, not_done, plac
 use Rattle.tow_stages.proofs.Heads.{silent_still}
 
 -- a walk leaves places for the calls that are still to come
-places_walk : (looks : ℕ) (tree : List Statement) (told : Option Files) (room : ℕ) (t : Tally) (old new : ExchangeData) (asks : ℕ)
+pub places_walk : (looks : ℕ) (tree : List Statement) (told : Option Files) (room : ℕ) (t : Tally) (old new : ExchangeData) (asks : ℕ)
     → WalksBy looks tree told old new → HasPlaces tree room t old asks → HasPlaces tree room t new asks
 places_walk zero tree told room t old new asks advances places = (calls_have_places tree room t).advances old new asks advances places
 places_walk (suc looks) tree told room t old new asks (seen, given, steps, look, advances) places =
