@@ -1,11 +1,16 @@
 -- A connection is cut.
-use Rattle.std.proofs.Common.{◌≡◌, ◌≢◌, ℕ, Bool, true, false, List, [], filter_map, reverse, Option, Some, None, refl, sym, ap, subst, ◌∙◌}
+use Rattle.std.proofs.Common.{◌≡◌, ◌≢◌, ℕ, Bool, true, false, List, [], filter_map, reverse, Option, Some, None, refl, sym, ap, subst, ◌∙◌, append-nil}
 use Rattle.tow_model.specs.declared.account.End.{End}
 use Rattle.tow_model.specs.declared.account.End.TheVariants.{Done}
+use Rattle.tow_model.specs.declared.record.Listener.{Listener}
 use Rattle.tow_model.specs.declared.statement.Statement.{Statement}
+use Rattle.tow_semantics.specs.Files.{Files}
+use Rattle.tow_model.specs.declared.record.Listener.{Listener}
+use Rattle.tow_semantics.specs.Files.{Files}
 use Rattle.tow_exchange.specs.Exchanges.{ExchangeData}
-use Rattle.tow_exchange.specs.Completions.{completion}
+use Rattle.tow_exchange.specs.Completions.{CompletedData, completion}
 use Rattle.tow_exchange.specs.declared.phase.Phase.TheVariants.{Stopped}
+use Rattle.tow_advance.specs.Moves.{AddsLogs}
 use Rattle.tow_program.specs.Actions.{formats_in}
 use Rattle.tow_program.specs.Programs.{program_of}
 use Rattle.tow_program.specs.declared.instruction.Instruction.{Instruction}
@@ -17,13 +22,19 @@ use Rattle.tow_sending.specs.Pieces.{Piece}
 use Rattle.tow_progress.specs.Progress.{Progress, Origin}
 use Rattle.tow_progress.specs.Accounts.{Tally}
 use Rattle.tow_states.specs.Known.{Setting}
+use Rattle.tow_states.specs.Calling.{HasPlacesFor}
 use Rattle.tow_states.specs.Closing.{IsWorkOf}
+use Rattle.tow_states.proofs.Calls.{calls_have_places}
 use Rattle.tow_stages.specs.Stages.{Base, Stage, answering, closing, ended, gathering, reading, refusing, walking}
 use Rattle.tow_stages.specs.Holding.{Holds}
 use Rattle.tow_stages.proofs.Heads.{readings_lead_on, refusals_lead_on}
 use Rattle.tow_stages.proofs.Walks.{walkings_lead_on}
 use Rattle.tow_stages.proofs.Gathers.{gatherings_lead_on}
-use Rattle.tow_stages.proofs.Answers.{answerings_lead_on}
+use Rattle.tow_stages.proofs.Answers.{adds_none, answerings_lead_on}
+use Rattle.tow_turns.specs.Nexts.{end_in}
+use Rattle.tow_turns.specs.Safe.{IsOpen, IsPuttable, IsSafe, calls_of}
+use Rattle.tow_turns.specs.Nexts.{end_in}
+use Rattle.tow_turns.specs.Safe.{IsOpen, IsSafe, calls_of}
 use Rattle.tow_turns.specs.Steps.{Comes, Leads}
 
 pub comes_to : (failed : Bool) (s : Setting) (o : Origin) (b : Base) (stage : Stage) (c : Progress) (t : Tally)
@@ -67,3 +78,63 @@ pub cut_answering : (s : Setting) (b : Base) (d : ClosingData) (pieces : List Pi
 cut_answering s b d pieces closes drain end after is fault failed o c t h =
     comes_to failed s o b after c t (subst (λ (x : Stage). Holds failed s o b x c t) (sym is)
     ((answerings_lead_on failed s o b d pieces closes drain c t h).is_cut end fault))
+
+-- ---- that it stays safe
+
+-- the listeners of an exchange that is open are left to run
+pub open_leaves : (tree : List Statement) (told : Option Files) (b : Base) (e : ExchangeData) (d : ClosingData) (end : End) (after : Stage)
+    → after ≡ closing d None (Some end) → d.completed ≡ completion e → IsOpen tree told b e → IsSafe tree told b after
+open_leaves tree told b e d end after is completed is_open =
+    subst (λ (x : Stage). IsSafe tree told b x) (sym is)
+    (subst (λ (l : List Listener). HasPlacesFor b.room (calls_of b) l) (sym (ap (λ (x : CompletedData). x.left) completed))
+    ((calls_have_places tree b.room (calls_of b)).completes e is_open.asks e.stand.state.listeners is_open.places
+    (adds_none e.stand.state.listeners)), tt)
+
+-- those of an answer are
+pub answer_leaves : (tree : List Statement) (told : Option Files) (b : Base) (d : ClosingData) (pieces : List Piece)
+    (drain : Option (Drain ContentSource)) (end : End) (after : Stage) → after ≡ closing d None (Some end)
+    → IsPuttable told b d pieces drain → IsSafe tree told b after
+answer_leaves tree told b d pieces drain end after is puttable =
+    subst (λ (x : Stage). IsSafe tree told b x) (sym is) (puttable.places, tt)
+
+pub ends_so : (d : ClosingData) (end : End) (after : Stage) → after ≡ closing d None (Some end) → end_in after ≡ Some end
+ends_so d end after is = ap end_in is
+
+-- ---- whatever the link tells
+
+adds_none : (listeners : List Listener) → AddsLogs listeners listeners
+adds_none listeners = ([], sym (append-nil listeners))
+
+-- there are places for the leavings of its exchange
+open_places : (tree : List Statement) (told : Option Files) (b : Base) (e : ExchangeData) → IsOpen tree told b e
+    → HasPlacesFor b.room (calls_of b) (reverse e.stand.state.listeners)
+open_places tree told b e is =
+    (calls_have_places tree b.room (calls_of b)).completes e is.asks e.stand.state.listeners is.places (adds_none e.stand.state.listeners)
+
+pub closes_safely : (tree : List Statement) (told : Option Files) (b : Base) (d : ClosingData) (end : End) (after : Stage)
+    → after ≡ closing d None (Some end) → HasPlacesFor b.room (calls_of b) d.completed.left → IsSafe tree told b after
+closes_safely tree told b d end after is places = subst (λ (x : Stage). IsSafe tree told b x) (sym is) (places, tt)
+
+work_places : (room : ℕ) (t : Tally) (e : ExchangeData) (d : ClosingData) → d.completed ≡ completion e
+    → HasPlacesFor room t (reverse e.stand.state.listeners) → HasPlacesFor room t d.completed.left
+work_places room t e d is = subst (λ (c : CompletedData). HasPlacesFor room t c.left) (sym is)
+
+pub walking_cut_safely : (tree : List Statement) (told : Option Files) (b : Base) (e : ExchangeData) (d : ClosingData) (end : End)
+    (after : Stage) → after ≡ closing d None (Some end) → d.completed ≡ completion e → IsSafe tree told b (walking e)
+    → IsSafe tree told b after
+walking_cut_safely tree told b e d end after is work safe =
+    closes_safely tree told b d end after is (work_places b.room (calls_of b) e d work (open_places tree told b e safe.0))
+
+pub gathering_cut_safely : (tree : List Statement) (told : Option Files) (b : Base) (e : ExchangeData) (g : Gathering) (to_tell : Bool)
+    (d : ClosingData) (end : End) (after : Stage) → after ≡ closing d None (Some end) → d.completed ≡ completion e
+    → IsSafe tree told b (gathering e g to_tell) → IsSafe tree told b after
+gathering_cut_safely tree told b e g to_tell d end after is work safe =
+    closes_safely tree told b d end after is (work_places b.room (calls_of b) e d work (open_places tree told b e safe.open_so))
+
+pub answering_cut_safely : (tree : List Statement) (told : Option Files) (b : Base) (d : ClosingData) (pieces : List Piece) (closes : Bool)
+    (drain : Option (Drain ContentSource)) (end : End) (after : Stage) → after ≡ closing d None (Some end)
+    → IsSafe tree told b (answering d pieces closes drain) → IsSafe tree told b after
+answering_cut_safely tree told b d pieces closes drain end after is safe = closes_safely tree told b d end after is safe.places
+
+pub ends_so : (d : ClosingData) (end : End) (after : Stage) → after ≡ closing d None (Some end) → end_in after ≡ Some end
+ends_so d end after is = ap end_in is

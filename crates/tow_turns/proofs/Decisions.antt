@@ -1,24 +1,43 @@
 -- An exchange that has stopped comes to its answer.
-use Rattle.std.proofs.Common.{◌≡◌, Bool, List, Option, Some, None, sym, ap, subst, ◌∙◌}
+use Rattle.std.specs.Prelude.{IfSome}
+use Rattle.std.proofs.Common.{◌≡◌, ◌<◌, Bool, true, false, List, reverse, Option, Some, None, refl, sym, ap, subst, ◌∙◌, lit<}
+use Rattle.tow_model.specs.declared.record.Choice.{Choice}
+use Rattle.tow_model.specs.declared.record.Listener.{Listener}
 use Rattle.tow_model.specs.declared.account.End.TheVariants.{NoMemory}
+use Rattle.tow_model.specs.declared.record.Listener.{Listener}
 use Rattle.tow_model.specs.declared.record.Record.{Record}
 use Rattle.tow_model.specs.declared.statement.Statement.{Statement}
 use Rattle.tow_semantics.specs.Files.{Files}
 use Rattle.tow_exchange.specs.Exchanges.{ExchangeData}
 use Rattle.tow_exchange.specs.Completions.{CompletedData, completion, without_listeners, without_record}
 use Rattle.tow_answer.specs.declared.content_use.ContentUse.{ContentUse}
-use Rattle.tow_replies.specs.Replies.{RepliesBy}
+use Rattle.tow_answer.specs.declared.content_use.ContentUse.TheVariants.{Unasked, Served, Refused}
+use Rattle.tow_answer.specs.declared.content_use.ContentUse.TheVariants.{Refused, Served, Unasked}
+use Rattle.tow_replies.specs.Replies.{FitPipe, RepliesBy}
+use Rattle.tow_source.specs.Readings.{unread}
 use Rattle.tow_closing.specs.Closings.{ClosingData}
+use Rattle.tow_source.specs.Readings.{unread}
 use Rattle.tow_source.specs.declared.drain.Drain.{Drain}
 use Rattle.tow_content.specs.declared.source.ContentSource.{ContentSource}
 use Rattle.tow_sending.specs.Pieces.{HasFile, HasParts, Piece}
 use Rattle.tow_progress.specs.Progress.{Progress, Origin}
 use Rattle.tow_progress.specs.Accounts.{Tally}
+use Rattle.tow_states.specs.Calling.{HasPlacesFor}
 use Rattle.tow_states.specs.Known.{Setting}
+use Rattle.tow_states.specs.Calling.{HasPlacesFor}
 use Rattle.tow_states.specs.Closing.{IsWorkOf}
 use Rattle.tow_stages.specs.Answering.{AnswerBegins, IsDrainFor}
 use Rattle.tow_stages.specs.Holding.{Holds}
 use Rattle.tow_stages.specs.Stages.{Base, Stage, answering, closing}
+use Rattle.tow_turns.specs.Contents.{DropsSome}
+use Rattle.tow_turns.specs.Folders.{HasPartsIn}
+use Rattle.tow_turns.specs.Nexts.{end_in, rank}
+use Rattle.tow_turns.specs.Safe.{IsPuttable, IsSafe, calls_of}
+use Rattle.tow_turns.proofs.Cuts.{closes_safely}
+use Rattle.tow_turns.specs.Contents.{DropsSome}
+use Rattle.tow_turns.specs.Folders.{HasPartsIn}
+use Rattle.tow_turns.specs.Nexts.{end_in, rank}
+use Rattle.tow_turns.specs.Safe.{IsPuttable, IsSafe, calls_of}
 
 -- the closing work of an exchange whose record was taken out
 abbrev pub taken_from : ClosingData → ClosingData
@@ -40,6 +59,65 @@ same_work tree e d after state is = subst (λ (x : ClosingData). IsWorkOf tree e
 state_of : (tree : List Statement) (e : ExchangeData) (d after : ClosingData) (state : Record) → IsTaken tree e d after state
     → state ≡ without_listeners e.stand.state
 state_of tree e d after state is = is.state_is ∙ ap (λ (x : CompletedData). without_listeners x.state) is.completed
+
+-- ---- that its stage is safe
+
+-- the record that was taken out chooses what the exchange chose
+pub chooses : (e : ExchangeData) (d : ClosingData) (state : Record) → d.completed ≡ completion e → state ≡ without_listeners d.completed.state
+    → state ≡ without_listeners e.stand.state
+chooses e d state is taken = taken ∙ ap (λ (x : CompletedData). without_listeners x.state) is
+
+at_told : (told : Option Files) (files : Files) (P : Files → Type 0) → told ≡ Some files → IfSome told P → P files
+at_told told files P is = subst (λ (x : Option Files). IfSome x P) is
+
+parts_in : (told : Option Files) (choice : Choice) (pieces : List Piece) → ((files : Files) → HasFile files choice → HasParts files pieces)
+    → IfSome told (λ (files : Files). HasFile files choice) → HasPartsIn told pieces
+parts_in told choice pieces there has =
+    λ files tells. there files (at_told told files (λ (x : Files). HasFile x choice) tells has)
+
+-- what is dropped behind it has come nowhere yet
+drops_some : (content_use : ContentUse) (e : ExchangeData) (closes : Bool) (drain : Option (Drain ContentSource))
+    → IsDrainFor content_use e closes drain → DropsSome drain
+drops_some Unasked e true drain is = subst (λ (x : Option (Drain ContentSource)). DropsSome x) (sym is) tt
+drops_some Unasked e false None is = elim is [ ]
+drops_some Unasked e false (Some drain) is = (unread e.request.framing, is)
+drops_some Served e closes drain is = subst (λ (x : Option (Drain ContentSource)). DropsSome x) (sym is) tt
+drops_some Refused e closes drain is = subst (λ (x : Option (Drain ContentSource)). DropsSome x) (sym is) tt
+
+-- the listeners of the exchange are left to run
+left_of : (e : ExchangeData) (d after : ClosingData) → d.completed ≡ completion e → after ≡ taken_from d
+    → after.completed.left ≡ reverse e.stand.state.listeners
+left_of e d after is taken = ap (λ (x : ClosingData). x.completed.left) taken ∙ ap (λ (x : CompletedData). x.left) is
+
+pub answer_is_safe : (told : Option Files) (b : Base) (e : ExchangeData) (content_use : ContentUse) (d after : ClosingData)
+    (state : Record) (pieces : List Piece) (closes : Bool) (drain : Option (Drain ContentSource)) → d.completed ≡ completion e
+    → after ≡ taken_from d → state ≡ without_listeners d.completed.state
+    → ((files : Files) → HasFile files state.choice → HasParts files pieces) → FitPipe pieces → IsDrainFor content_use e closes drain
+    → IfSome told (λ (files : Files). HasFile files e.stand.state.choice)
+    → HasPlacesFor b.room (calls_of b) (reverse e.stand.state.listeners) → IsPuttable told b after pieces drain
+answer_is_safe told b e content_use d after state pieces closes drain is taken taken_out there fit drains has places = record {
+  parts = parts_in told state.choice pieces there
+      (subst (λ (x : Record). IfSome told (λ (files : Files). HasFile files x.choice)) (sym (chooses e d state is taken_out)) has);
+  fit = fit;
+  drops = drops_some content_use e closes drain drains;
+  places = subst (λ (l : List Listener). HasPlacesFor b.room (calls_of b) l) (sym (left_of e d after is taken)) places;
+}
+
+pub short_is_safe : (tree : List Statement) (told : Option Files) (b : Base) (e : ExchangeData) (d after : ClosingData) (stage : Stage)
+    → d.completed ≡ completion e → after ≡ taken_from d → stage ≡ closing after None (Some NoMemory)
+    → HasPlacesFor b.room (calls_of b) (reverse e.stand.state.listeners) → IsSafe tree told b stage
+short_is_safe tree told b e d after stage is taken so places =
+    subst (λ (x : Stage). IsSafe tree told b x) (sym so)
+    (subst (λ (l : List Listener). HasPlacesFor b.room (calls_of b) l) (sym (left_of e d after is taken)) places, tt)
+
+pub short_is_near : (after : ClosingData) (stage : Stage) → stage ≡ closing after None (Some NoMemory) → rank stage < 5
+short_is_near after stage so = subst (λ (x : Stage). rank x < 5) (sym so) (lit< tt)
+
+pub short_ends : (after : ClosingData) (stage : Stage) → stage ≡ closing after None (Some NoMemory)
+    → IfSome (end_in stage) (λ end. end ≡ NoMemory)
+short_ends after stage so = subst (λ (x : Stage). IfSome (end_in x) (λ end. end ≡ NoMemory)) (sym so) refl
+
+-- ---- what it leads to
 
 pub has_its_file : (files : Files) (tree : List Statement) (e : ExchangeData) (d after : ClosingData) (state : Record)
     → IsTaken tree e d after state → HasFile files e.stand.state.choice → HasFile files state.choice
@@ -64,3 +142,55 @@ pub is_short : (failed : Bool) (s : Setting) (o : Origin) (b : Base) (e : Exchan
     → IsTaken s.tree e d after state → AnswerBegins failed s o b e content_use c t → Holds failed s o b stage c t
 is_short failed s o b e content_use c t d after state stage so is begins =
     subst (λ (x : Stage). Holds failed s o b x c t) (sym so) (begins.is_short after (same_work s.tree e d after state is))
+
+-- ---- whatever the link tells
+
+-- what is dropped has come somewhere in its content
+drops_some : (content_use : ContentUse) (e : ExchangeData) (closes : Bool) (drain : Option (Drain ContentSource))
+    → IsDrainFor content_use e closes drain → DropsSome drain
+drops_some Unasked e true drain is = subst (λ (x : Option (Drain ContentSource)). DropsSome x) (sym is) tt
+drops_some Unasked e false None is = absurd is
+drops_some Unasked e false (Some drain) is = (unread e.request.framing, is)
+drops_some Served e closes drain is = subst (λ (x : Option (Drain ContentSource)). DropsSome x) (sym is) tt
+drops_some Refused e closes drain is = subst (λ (x : Option (Drain ContentSource)). DropsSome x) (sym is) tt
+
+module _ (e : ExchangeData) (d after : ClosingData) (state : Record) (completed : d.completed ≡ completion e) where
+  parts_told : (told : Option Files) (pieces : List Piece) → state ≡ without_listeners d.completed.state
+      → ((files : Files) → HasFile files state.choice → HasParts files pieces)
+      → IfSome told (λ files. HasFile files e.stand.state.choice) → HasPartsIn told pieces
+  parts_told told pieces state_is there has = λ files is.
+      let file : IfSome (Some files) (λ files. HasFile files e.stand.state.choice) =
+      subst (λ (o : Option Files). IfSome o (λ files. HasFile files e.stand.state.choice)) is has in
+      there files (subst (λ (x : Record). HasFile files x.choice)
+      (sym (state_is ∙ ap (λ (x : CompletedData). without_listeners x.state) completed)) file)
+
+  places_told : (room : ℕ) (t : Tally) → after ≡ taken_from d → HasPlacesFor room t (reverse e.stand.state.listeners)
+      → HasPlacesFor room t after.completed.left
+  places_told room t taken =
+      subst (λ (l : List Listener). HasPlacesFor room t l)
+      (sym (ap (λ (x : ClosingData). x.completed.left) taken ∙ ap (λ (x : CompletedData). x.left) completed))
+
+  pub answers_safely : (told : Option Files) (b : Base) (content_use : ContentUse) (pieces : List Piece) (closes : Bool)
+      (drain : Option (Drain ContentSource)) → after ≡ taken_from d → state ≡ without_listeners d.completed.state
+      → ((files : Files) → HasFile files state.choice → HasParts files pieces) → FitPipe pieces → IsDrainFor content_use e closes drain
+      → IfSome told (λ files. HasFile files e.stand.state.choice) → HasPlacesFor b.room (calls_of b) (reverse e.stand.state.listeners)
+      → IsPuttable told b after pieces drain
+  answers_safely told b content_use pieces closes drain taken state_is there fit drains has places = record {
+    parts = parts_told told pieces state_is there has;
+    fit = fit;
+    drops = drops_some content_use e closes drain drains;
+    places = places_told b.room (calls_of b) taken places;
+  }
+
+  pub short_safely : (tree : List Statement) (told : Option Files) (b : Base) (stage : Stage)
+      → stage ≡ closing after None (Some NoMemory) → after ≡ taken_from d
+      → HasPlacesFor b.room (calls_of b) (reverse e.stand.state.listeners) → IsSafe tree told b stage
+  short_safely tree told b stage is taken places =
+      closes_safely tree told b after NoMemory stage is (places_told b.room (calls_of b) taken places)
+
+pub short_is_near : (d : ClosingData) (stage : Stage) → stage ≡ closing d None (Some NoMemory) → rank stage < 5
+short_is_near d stage is = let far : rank stage ≡ 3 = ap rank is in omega (arith, far)
+
+pub short_ends : (d : ClosingData) (stage : Stage) → stage ≡ closing d None (Some NoMemory)
+    → IfSome (end_in stage) (λ end. end ≡ NoMemory)
+short_ends d stage is = subst (λ (x : Stage). IfSome (end_in x) (λ end. end ≡ NoMemory)) (sym is) refl

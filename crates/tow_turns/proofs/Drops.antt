@@ -1,5 +1,5 @@
 -- A content that nobody asked for is dropped.
-use Rattle.std.proofs.Common.{◌≡◌, ◌⊎◌, ℕ, Bool, true, false, if◌then◌else◌, List, [], Option, Some, None, refl, ◌∙◌}
+use Rattle.std.proofs.Common.{◌≡◌, ◌⊎◌, ℕ, Bool, true, false, if◌then◌else◌, List, [], Option, Some, None, refl}
 use Rattle.circular_buffer.specs.Buffer.{Buffer}
 use Rattle.tow_model.specs.declared.account.End.TheVariants.{Done}
 use Rattle.tow_source.specs.Readings.{DrainsPipe, Onward, Reading}
@@ -9,15 +9,9 @@ use Rattle.tow_source.specs.declared.drain.Drain.{Drain}
 use Rattle.tow_content.specs.declared.source.ContentSource.{ContentSource}
 use Rattle.tow_content.specs.Sources.{ReadsContent}
 use Rattle.tow_closing.specs.Closings.{ClosingData}
-use Rattle.tow_progress.specs.Steps.{read_in}
-use Rattle.tow_progress.specs.Progress.{Progress}
-use Rattle.tow_sending.specs.Pieces.{Piece}
 use Rattle.tow_states.specs.Known.{Setting}
-use Rattle.tow_leads.specs.Ports.{IsPortOf, IsRead, PortData}
-use Rattle.tow_stages.specs.Stages.{Base, Stage, answering, closing}
-use Rattle.tow_stages.specs.Moving.{over}
+use Rattle.tow_stages.specs.Stages.{Base, answering, closing}
 use Rattle.tow_stages.proofs.Answers.{answerings_lead_on}
-use Rattle.tow_stages.proofs.Moves.{reads_lead_on}
 use Rattle.tow_turns.specs.Contents.{ReadsSome}
 use Rattle.tow_turns.specs.Steps.{Leads}
 use Rattle.tow_turns.proofs.Cuts.{comes_to}
@@ -70,22 +64,6 @@ drop_goes_on s b d closes old new answer pipe on = record {
   is_refused = λ is out failed o c t h. comes_to failed s o (taken_by pipe b) (closing d None (Some Done)) _ t
       (((answerings_lead_on failed s o b d [] closes (Some old) c t h).drops refl old new refl answer pipe on).is_refused is out);
 }
-
--- one step, and then another
-pub then_on : (s : Setting) (a b c : Base) (x y z : Stage) → Leads s a b x y → Leads s b c y z → Leads s a c x z
-then_on s a b c x y z first second failed o p t h =
-    let m = first failed o p t h in
-    let n = second failed o m.progress m.tally m.holds in
-    record { progress = n.progress; tally = n.tally; holds = n.holds; same_lines = n.same_lines ∙ m.same_lines }
-
--- the link is read while a content is dropped
-pub reads_on : (s : Setting) (b : Base) (d : ClosingData) (pieces : List Piece) (closes : Bool) (drain : Option (Drain ContentSource))
-    (p : PortData) → ((c : Progress) → IsPortOf b.port c → IsRead p c)
-    → Leads s b (over p b) (answering d pieces closes drain) (answering d pieces closes drain)
-reads_on s b d pieces closes drain p fills failed o c t h =
-    let r : IsRead p c = fills c h.is_at.port in
-    comes_to failed s o (over p b) (answering d pieces closes drain) (read_in r.bytes r.left c) t
-    (reads_lead_on failed s o b (answering d pieces closes drain) c t h tt p r)
 
 -- all was put and written, and nothing is dropped
 pub completes_on : (s : Setting) (b : Base) (d : ClosingData) (closes : Bool) → b.port.output.items ≡ []

@@ -1,6 +1,8 @@
 pub mod PortSteps
+pub mod Fits
 pub mod Refusals
 pub mod Tellings
+pub mod Runs
 pub mod Cuts
 pub mod Decisions
 pub mod Sends

@@ -1,6 +1,6 @@
 -- The listeners of an exchange run, and tell their lines.
-use Rattle.std.proofs.Common.{◌≡◌, inl, inr, ℕ, Bool, true, false, List, [], ◌∷◌, ◌++◌, Option, Some, None, option_map, refl, sym, ap, subst, ◌∙◌, append-nil, arith}
-use Rattle.std.proofs.lemmas.List.Elements.{All-cons, All-nil}
+use Rattle.std.proofs.Common.{◌≡◌, inl, inr, ℕ, Bool, true, false, List, [], ◌∷◌, ◌++◌, All, Option, Some, None, option_map, refl, sym, ap, subst, ap₂, ◌⊎◌, ◌∙◌, append-nil, append_assoc, arith}
+use Rattle.std.proofs.lemmas.List.Elements.{All-append, All-cons, All-nil}
 use Rattle.tow_model.specs.Texts.{Text}
 use Rattle.tow_model.specs.declared.account.Line.{Line}
 use Rattle.tow_model.specs.declared.account.End.{End}
@@ -21,7 +21,8 @@ use Rattle.tow_stages.specs.Holding.{Holds}
 use Rattle.tow_stages.specs.Closing.{silenced}
 use Rattle.tow_stages.proofs.Closes.{closings_lead_on}
 use Rattle.tow_stages.proofs.Ends.{failures_lead_on}
-use Rattle.tow_turns.specs.Logging.{Gains, KeepsFaults, LeadsTelling, Tells}
+use Rattle.tow_turns.specs.Logging.{FailsFor, Gains, KeepsFaults, LeadsTelling, Tells}
+use Rattle.tow_turns.specs.Steps.{Leads}
 
 -- ---- a log that is as it was
 
@@ -128,4 +129,94 @@ is_refused s log new_log b d new end number text line does same puts rose failed
       own = All-nil _;
       stored = l.lines ∙ sym (append-nil t.lines);
       gains = ap (λ (l : LogData). l.lines) puts ∙ gains_none (Some log);
+    }
+
+-- ---- one step, and then another
+
+pub then_on : (s : Setting) (a b c : Base) (x y z : Stage) → Leads s a b x y → Leads s b c y z → Leads s a c x z
+then_on s a b c x y z first second failed o p t h =
+    let m = first failed o p t h in
+    let n = second failed o m.progress m.tally m.holds in
+    record { progress = n.progress; tally = n.tally; holds = n.holds; same_lines = n.same_lines ∙ m.same_lines }
+
+-- a step that tells its log nothing
+pub tells_nothing : (s : Setting) (log : Option LogData) (a b : Base) (x y : Stage) → Leads s a b x y → LeadsTelling log log s a b x y
+tells_nothing s log a b x y leads failed o c t h =
+    let m = leads failed o c t h in
+    quiet failed s o log b y t.lines m.progress m.tally m.holds m.same_lines
+
+gains_both : (one two : List Line) (a b c : Option LogData) → Gains one a b → Gains two b c → Gains (one ++ two) a c
+gains_both one two None None None first second = ap₂ (λ (x y : List Line). x ++ y) first second
+gains_both one two None None (Some c) first second = absurd second
+gains_both one two None (Some b) c first second = absurd first
+gains_both one two (Some a) None c first second = absurd first
+gains_both one two (Some a) (Some b) None first second = absurd second
+gains_both one two (Some a) (Some b) (Some c) first second =
+    second ∙ ap (λ (l : Option (List Line)). option_map (λ (lines : List Line). lines ++ two) l) first ∙ both_added a.lines
+  where
+    both_added : (lines : Option (List Line))
+        → option_map (λ (l : List Line). l ++ two) (option_map (λ (l : List Line). l ++ one) lines)
+        ≡ option_map (λ (l : List Line). l ++ (one ++ two)) lines
+    both_added None = refl
+    both_added (Some l) = ap (λ (x : List Line). Some x) (append_assoc l one two)
+
+module _ (k : ℕ) where
+  fails_then_kept : (a b c : Option LogData) → FailsFor k a b → KeepsFaults k b c → FailsFor k a c
+  fails_then_kept None b c fails kept = absurd fails
+  fails_then_kept (Some a) None c fails kept = absurd fails
+  fails_then_kept (Some a) (Some b) None fails kept = absurd kept
+  fails_then_kept (Some a) (Some b) (Some c) fails kept = let later = kept.0 in omega (arith, fails, later)
+
+  kept_then_fails : (a b c : Option LogData) → KeepsFaults k a b → FailsFor k b c → FailsFor k a c
+  kept_then_fails None None c kept fails = absurd fails
+  kept_then_fails None (Some b) c kept fails = absurd kept
+  kept_then_fails (Some a) None c kept fails = absurd kept
+  kept_then_fails (Some a) (Some b) None kept fails = absurd fails
+  kept_then_fails (Some a) (Some b) (Some c) kept fails = let later = kept.0 in omega (arith, fails, later)
+
+  pub faults_both : (a b c : Option LogData) → KeepsFaults k a b → KeepsFaults k b c → KeepsFaults k a c
+  faults_both None None None first second = tt
+  faults_both None None (Some c) first second = absurd second
+  faults_both None (Some b) c first second = absurd first
+  faults_both (Some a) None c first second = absurd first
+  faults_both (Some a) (Some b) None first second = absurd second
+  faults_both (Some a) (Some b) (Some c) first second =
+      let l1 = first.0 in
+      let l2 = second.0 in
+      let s1 = first.1.shared in
+      let s2 = second.1.shared in
+      (
+        omega (arith, l1, l2),
+        record { own = λ other is. second.1.own other is ∙ first.1.own other is; shared = omega (arith, s1, s2) },
+      )
+
+  -- it has failed for the connection by either step
+  fails_both : (failed middle fails : Bool) (a b c : Option LogData) → KeepsFaults k a b → KeepsFaults k b c
+      → (middle ≡ failed) ⊎ FailsFor k a b → (fails ≡ middle) ⊎ FailsFor k b c → (fails ≡ failed) ⊎ FailsFor k a c
+  fails_both failed middle fails a b c kept later (inl same) (inl still) = inl (still ∙ same)
+  fails_both failed middle fails a b c kept later (inr fault) (inl still) = inr (fails_then_kept a b c fault later)
+  fails_both failed middle fails a b c kept later first (inr fault) = inr (kept_then_fails a b c kept fault)
+
+-- The log's counts did not fall in either step.
+pub then_tells : (k : ℕ) (s : Setting) (one two three : Option LogData) (a b c : Base) (x y z : Stage) → b.number ≡ k → c.number ≡ k
+    → KeepsFaults k one two → KeepsFaults k two three → LeadsTelling one two s a b x y → LeadsTelling two three s b c y z
+    → LeadsTelling one three s a c x z
+then_tells k s one two three a b c x y z at_b at_c kept later first second failed o p t h =
+    let m = first failed o p t h in
+    let n = second m.fails o m.progress m.tally m.holds in
+    let same : b.number ≡ c.number = at_b ∙ sym at_c in
+    record {
+      progress = n.progress;
+      tally = n.tally;
+      fails = n.fails;
+      failed_so = subst (λ (i : ℕ). (n.fails ≡ failed) ⊎ FailsFor i one three) (sym at_c)
+          (fails_both k failed m.fails n.fails one two three kept later
+          (subst (λ (i : ℕ). (m.fails ≡ failed) ⊎ FailsFor i one two) at_b m.failed_so)
+          (subst (λ (i : ℕ). (n.fails ≡ m.fails) ⊎ FailsFor i two three) at_c n.failed_so));
+      holds = n.holds;
+      added = m.added ++ n.added;
+      own = All-append (λ (line : Line). line.connection ≡ c.number) m.added n.added
+          (subst (λ (i : ℕ). All (λ (line : Line). line.connection ≡ i) m.added) same m.own) n.own;
+      stored = n.stored ∙ ap (λ (l : List Line). l ++ n.added) m.stored ∙ append_assoc t.lines m.added n.added;
+      gains = gains_both m.added n.added one two three m.gains n.gains;
     }

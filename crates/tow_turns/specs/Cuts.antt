@@ -13,3 +13,9 @@ MayBeCut (gathering e g to_tell) = e.moment < first_undated
 MayBeCut (answering d pieces closes drain) = Unit {0}
 MayBeCut (closing d owed end) = Unit {0}
 MayBeCut (ended end) = Unit {0}
+
+-- neither do its listeners run, nor has it ended
+abbrev pub IsLive : Stage → Type 0
+IsLive (closing d owed end) = ⊥
+IsLive (ended end) = ⊥
+IsLive other = Unit {0}

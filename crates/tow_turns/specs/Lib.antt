@@ -5,3 +5,7 @@ pub mod Logging
 pub mod Cuts
 pub mod Folders
 pub mod Contents
+pub mod Listeners
+pub mod Puttings
+pub mod Safe
+pub mod Nexts

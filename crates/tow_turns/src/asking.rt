@@ -1,28 +1,35 @@
 //! An exchange comes to wait for its content, and its client is told to send it.
 
-ghost use Rattle.std.specs.Prelude.{◌≡◌, true};
+ghost use Rattle.std.specs.Prelude.{◌≡◌, ◌<◌, ℕ, List, None, Option, true};
+ghost use Rattle.tow_model.specs.declared.statement.Statement.{Statement};
+ghost use Rattle.tow_semantics.specs.Files.{Files};
 ghost use Rattle.tow_wire.specs.Answers as wire;
 ghost use Rattle.tow_states.specs.Gathering as model;
 ghost use Rattle.tow_states.specs.Known.{Setting};
 ghost use Rattle.tow_stages.specs.Stages as stages;
 ghost use Rattle.tow_turns.specs.Data.{base_of, stage_of};
+ghost use Rattle.tow_turns.specs.Nexts.{StepFits, end_in, rank};
+ghost use Rattle.tow_turns.specs.Safe.{IsOpen, IsSafe};
 ghost use Rattle.tow_turns.specs.Steps.{Leads};
 
 use crate::base::Base;
 use crate::stage::{Asking, Stage, Then};
-use crate::turn::Turn;
 use std::alloc::Global;
 use tow_content::Gathering;
 use tow_exchange::{Exchange, Phase};
 use tow_model::limits::MAX_CONTENT_LEN;
-use tow_model::{Framing, Request};
+use tow_model::{Framing, Request, Role};
 use tow_peer::Link;
 
 /// The exchange waits for its content. Takes no memory.
 pub fn ask(alloc: Global, exchange: Exchange) -> Stage
     requires waits { exchange.phase ≡ Phase.AwaitsContent }
-    ensures { (s : Setting) (b : stages.Base) → Leads s b b (stage_of (Stage.Walking exchange))
-        (stage_of result) }
+    ensures steps { (s : Setting) (b : stages.Base) → Leads s b b
+        (stage_of (Stage.Walking exchange)) (stage_of result) }
+    ensures safe { (tree : List Statement) (told : Option Files) (b : stages.Base)
+        → IsOpen tree told b exchange → IsSafe tree told b (stage_of result) }
+    ensures near { rank (stage_of result) < 7 }
+    ensures goes_on { end_in (stage_of result) ≡ None }
 {
     let asked = exchange.request();
     let to_invite = is_to_be_told(asked);
@@ -54,13 +61,17 @@ fn is_too_long(framing: Framing) -> bool
 /// Tells the client to send the content, if there is room for that. Takes no memory.
 pub fn invite<L: Link>(base: &mut Base<L>, asking: Asking) -> (Stage, Then)
     requires told { asking.to_invite ≡ true }
-    ensures { (s : Setting) → Leads s (base_of L.shows base.old) (base_of L.shows base.new)
+    ensures steps { (s : Setting) → Leads s (base_of L.shows base.old) (base_of L.shows base.new)
         (stage_of (Stage.Gathering asking)) (stage_of result.0) }
+    ensures fits { (role : Role) (tree : List Statement) (told : Option Files) (n n' : ℕ)
+        → IsSafe tree told (base_of L.shows base.old) (stage_of (Stage.Gathering asking))
+        → StepFits role tree told n n' (base_of L.shows base.old) (base_of L.shows base.new)
+        (stage_of (Stage.Gathering asking)) (stage_of result.0) result.1 }
 {
     let mut asking = asking;
     if base.port.put(b"HTTP/1.1 100 Continue\r\n\r\n") {
         asking.to_invite = false;
         return (Stage::Gathering(asking), Then::On);
     }
-    (Stage::Gathering(asking), Then::Stop(Turn::ToLoop))
+    (Stage::Gathering(asking), Then::Write)
 }

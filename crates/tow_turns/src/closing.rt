@@ -1,14 +1,20 @@
 //! The listeners of an exchange run.
 
-ghost use Rattle.std.specs.Prelude.{◌≡◌, [], None, Some, option_map};
+ghost use Rattle.std.specs.Prelude.{◌≡◌, ℕ, List, None, Option, Some};
+ghost use Rattle.tow_model.specs.declared.statement.Statement.{Statement};
+ghost use Rattle.tow_semantics.specs.Files.{Files};
 ghost use Rattle.tow_closing.specs.Closings.{ClosingData, Does};
 ghost use Rattle.tow_states.specs.Known.{Setting};
+ghost use Rattle.tow_states.specs.Leaving.{left_in};
 ghost use Rattle.tow_stages.specs.Stages as model;
 ghost use Rattle.tow_turns.specs.Data.{base_of, stage_of};
+ghost use Rattle.tow_turns.specs.Listeners.{IsTold, KeepsBase, Runs};
 ghost use Rattle.tow_turns.specs.Logging.{KeepsFaults, LeadsTelling};
+ghost use Rattle.tow_turns.specs.Nexts.{StepFits};
+ghost use Rattle.tow_turns.specs.Roles.{IsLoop};
+ghost use Rattle.tow_turns.specs.Safe.{IsSafe};
 
 use crate::base::Base;
-use crate::role::is_loop;
 use crate::stage::{Completing, Stage, Then};
 use crate::turn::Turn;
 use tow_closing::{Closing, Work};
@@ -16,26 +22,30 @@ use tow_host::{LogSink, Put};
 use tow_model::{Bytes, End, Role};
 use tow_peer::Link;
 
-/// Runs the next listener; if none is left, the next head is read, or the connection ends. That is an I/O loop's, who has a log.
-/// Takes no memory.
+/// Runs the listeners that are left, up to one that leaves a limit; if none is left, the next head is read, or the connection
+/// ends. That is an I/O loop's. Takes no memory.
 pub fn close_on<L: Link, G: LogSink>(
     base: &mut Base<L>,
     completing: Completing,
-    role: Role,
-    log: &mut Option<G>,
+    log: &mut G,
 ) -> (Stage, Then)
-    ensures steps { (s : Setting) → LeadsTelling (option_map G.shows log.old)
-        (option_map G.shows log.new) s (base_of L.shows base.old) (base_of L.shows base.new)
+    ensures steps { (s : Setting) → LeadsTelling (Some (G.shows log.old))
+        (Some (G.shows log.new)) s (base_of L.shows base.old) (base_of L.shows base.new)
         (stage_of (Stage.Closing completing)) (stage_of result.0) }
-    ensures faults { KeepsFaults base.old.number (option_map G.shows log.old)
-        (option_map G.shows log.new) }
+    ensures fits { (role : Role) (tree : List Statement) (told : Option Files) (n n' : ℕ)
+        → IsLoop role
+        → IsSafe tree told (base_of L.shows base.old) (stage_of (Stage.Closing completing))
+        → StepFits role tree told n n' (base_of L.shows base.old) (base_of L.shows base.new)
+        (stage_of (Stage.Closing completing)) (stage_of result.0) result.1 }
+    ensures faults { KeepsFaults base.old.number (Some (G.shows log.old))
+        (Some (G.shows log.new)) }
 {
-    if !is_loop(role) {
-        return (Stage::Closing(completing), Then::Stop(Turn::ToLoop));
-    }
-    match log {
-        Some(log) => close_by(base, completing, log),
-        None => (Stage::Closing(completing), Then::Stop(Turn::ToLoop)),
+    let mut completing = completing;
+    'listeners: loop {
+        match close_by(base, completing, log) {
+            (Stage::Closing(next), Then::On) => completing = next,
+            (stage, then) => return (stage, then),
+        }
     }
 }
 
@@ -48,6 +58,8 @@ fn close_by<L: Link, G: LogSink>(
     ensures steps { (s : Setting) → LeadsTelling (Some (G.shows log.old))
         (Some (G.shows log.new)) s (base_of L.shows base.old) (base_of L.shows base.new)
         (stage_of (Stage.Closing completing)) (stage_of result.0) }
+    ensures runs { Runs (left_in completing.owed completing.closing) completing.end result.0 result.1 }
+    ensures base { KeepsBase (base_of L.shows base.old) (base_of L.shows base.new) }
     ensures faults { KeepsFaults base.old.number (Some (G.shows log.old))
         (Some (G.shows log.new)) }
 {
@@ -71,6 +83,8 @@ fn run_next<L: Link, G: LogSink>(
     ensures steps { (s : Setting) → LeadsTelling (Some (G.shows log.old))
         (Some (G.shows log.new)) s (base_of L.shows base.old) (base_of L.shows base.new)
         (model.closing closing None end) (stage_of result.0) }
+    ensures runs { Runs closing.completed.left end result.0 result.1 }
+    ensures base { KeepsBase (base_of L.shows base.old) (base_of L.shows base.new) }
     ensures faults { KeepsFaults base.old.number (Some (G.shows log.old))
         (Some (G.shows log.new)) }
 {
@@ -107,6 +121,8 @@ fn tell<L: Link, G: LogSink>(
         → closing.lost ≡ d.lost → LeadsTelling (Some (G.shows log.old)) (Some (G.shows log.new)) s
         (base_of L.shows base.old) (base_of L.shows base.new) (model.closing d None end)
         (stage_of result) }
+    ensures told { IsTold closing end result }
+    ensures base { KeepsBase (base_of L.shows base.old) (base_of L.shows base.new) }
     ensures faults { KeepsFaults base.old.number (Some (G.shows log.old))
         (Some (G.shows log.new)) }
 {

@@ -74,6 +74,8 @@ pub enum Then {
     On,
     /// The turn ends with this answer.
     Stop(Turn),
-    /// The connection is cut for this reason.
-    Cut(End),
+    /// The link is to be read, which is an I/O loop's.
+    Read,
+    /// The link is to be written, which is an I/O loop's.
+    Write,
 }

@@ -3,11 +3,19 @@ use Rattle.tow_model.specs.declared.request.Request.{Request}
 use Rattle.tow_source.specs.Readings.{unread}
 use Rattle.tow_content.specs.Gatherings.{Gathers}
 use Rattle.tow_states.specs.Gathering.{is_to_be_told}
-use Rattle.tow_turns.proofs.Asks.{asked}
+use Rattle.tow_turns.proofs.Asks.{asked, asking_is_near, asks_safely}
 use Rattle.tow_turns.proofs.asking.ask.Goals as goal
 
-pub returns : goal.returns
-returns c =
+pub returns-clause-steps : goal.returns-clause-steps
+returns-clause-steps c =
     λ s b. asked s b c.args.exchange c.new-gathering.result c.is_to_be_told-to_invite.result c.requires.waits
     (subst (λ (q : Request). Gathers c.new-gathering.result (unread q.framing)) c.request-asked.ensures c.new-gathering.ensures)
     (c.is_to_be_told-to_invite.ensures ∙ ap is_to_be_told c.request-asked.ensures)
+
+pub returns-clause-safe : goal.returns-clause-safe
+returns-clause-safe c =
+    λ tree told b is. asks_safely tree told b c.args.exchange c.new-gathering.result c.requires.waits
+    (subst (λ (q : Request). Gathers c.new-gathering.result (unread q.framing)) c.request-asked.ensures c.new-gathering.ensures) is
+
+pub returns-clause-near : goal.returns-clause-near
+returns-clause-near c = asking_is_near c.args.exchange c.new-gathering.result c.is_to_be_told-to_invite.result
