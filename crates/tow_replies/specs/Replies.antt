@@ -1,5 +1,6 @@
 -- What is sent for an exchange that completed.
-use Rattle.std.specs.Prelude.{◌≡◌, ℕ, Bool, not, true, List, Option}
+use Rattle.std.specs.Prelude.{◌≡◌, ℕ, ◌≤◌, Bool, not, true, List, All, Option}
+use Rattle.tow_model.specs.declared.limits.TheConstants.{PIPE_LEN}
 use Rattle.tow_model.specs.declared.request.Request.{Request}
 use Rattle.tow_model.specs.declared.answer.Answer.{Answer}
 use Rattle.tow_model.specs.declared.content.Content.{Content}
@@ -9,12 +10,16 @@ use Rattle.tow_wire.specs.Wire.{Met, answer_to, goes_on}
 use Rattle.tow_exchange.specs.Completions.{CompletedData}
 use Rattle.tow_answer.specs.declared.content_use.ContentUse.{ContentUse}
 use Rattle.tow_answer.specs.Uses.{IsUsed}
-use Rattle.tow_sending.specs.Pieces.{Piece, pieces_of, texts}
+use Rattle.tow_sending.specs.Pieces.{Piece, size_of, pieces_of, texts}
 
 -- The pieces are those of the answer, and it says whether the connection ends.
 pub record Sends (q : Request) (a : Answer) (pieces : List Piece) (ends : Bool) : Type 0 where
   pub whole : pieces ≡ pieces_of q a
   pub last : ends ≡ a.close
+
+-- each piece fits an empty pipe
+abbrev pub FitPipe : List Piece → Type 0
+FitPipe pieces = All (λ (p : Piece). size_of p ≤ PIPE_LEN) pieces
 
 -- An exchange ended so with this record, whatever became of its listeners: its answer is decided, it is the record's, and the
 -- content of its request was used so.

@@ -8,7 +8,7 @@ ghost use Rattle.tow_semantics.specs.Runs.{Ending};
 ghost use Rattle.tow_wire.specs.Answers.{answer_of};
 ghost use Rattle.tow_answer.specs.Uses.{IsUsed};
 ghost use Rattle.tow_sending.specs.Pieces.{HasFile, HasParts, IsAskable};
-ghost use Rattle.tow_replies.specs.Replies.{RepliesBy, Sends};
+ghost use Rattle.tow_replies.specs.Replies.{FitPipe, RepliesBy, Sends};
 
 use std::alloc::Global;
 use tow_answer::{ContentUse, answer_to};
@@ -24,8 +24,8 @@ pub struct Reply {
 }
 
 /// The reply of an exchange that completed, and used the content of its request so. Its record, which was taken out of it,
-/// goes on into the answer. Takes memory for the fields that the record does not have, and as `Sending::new` does; no
-/// content is copied.
+/// goes on into the answer. Each piece of it fits an empty pipe of `PIPE_LEN` bytes. Takes memory for the fields that the
+/// record does not have, and as `Sending::new` does; no content is copied.
 pub fn reply_to(
     alloc: Global,
     completed: &Completed,
@@ -38,6 +38,7 @@ pub fn reply_to(
         reply.closes) }
     ensures there { (files : Files) → HasFile files state.choice
         → IfOk result (λ reply. HasParts files reply.sending) }
+    ensures fit { IfOk result (λ reply. FitPipe reply.sending) }
 {
     reply_with(
         alloc,
@@ -65,6 +66,7 @@ fn reply_with(
         (answer_of request.now number moment content o) reply.sending reply.closes) }
     ensures there { (files : Files) → HasFile files state.choice
         → IfOk result (λ reply. HasParts files reply.sending) }
+    ensures fit { IfOk result (λ reply. FitPipe reply.sending) }
 {
     let answer = answer_to(alloc, request, number, moment, content_use, state)?;
     let closes = answer.close;
