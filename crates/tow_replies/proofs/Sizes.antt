@@ -19,7 +19,7 @@ use Rattle.tow_replies.specs.Replies.{FitPipe}
 
 -- ---- sizes
 
--- a number has at most as many digits as are looked for
+-- at most one digit is put before the others at each step
 onto_short : (k base : ℕ) (upper : Bool) (n : ℕ) (acc : List ℕ) → length (digits_onto k base upper n acc) ≤ k + length acc
 onto_short zero base upper n acc = omega arith
 onto_short (suc k) base upper n acc =
@@ -30,10 +30,12 @@ onto_short (suc k) base upper n acc =
     by true more = omega arith
     by false more = omega (arith, more)
 
+-- a number has at most 64 digits
 digits_short : (base : ℕ) (upper : Bool) (n : ℕ) → length (digits base upper n) ≤ 64
 unfolding digits
 digits_short base upper n = omega (arith, onto_short 64 base upper n [])
 
+-- a chunk of a block: its size line, its bytes and two line ends
 chunk_fits : (block : List ℕ) → length block ≤ BLOCK_LEN → length (chunk_text block) ≤ PIPE_LEN
 chunk_fits block small =
     let size = digits 16 false (length block) in
@@ -44,6 +46,7 @@ chunk_fits block small =
 
 -- ---- pieces
 
+-- what is cut has pieces of this size at most
 cut_short : (size n : ℕ) (bytes : List ℕ) → All (λ (block : List ℕ). length block ≤ size) (cut size n bytes)
 cut_short size zero bytes = All-nil _
 cut_short size (suc n) [] = All-nil _
@@ -51,9 +54,11 @@ cut_short size (suc n) (b ∷ bytes) =
     All-cons (λ (block : List ℕ). length block ≤ size) (take size (b ∷ bytes)) (cut size n (drop size (b ∷ bytes))) (omega (arith, length-take size (b ∷ bytes)))
     (cut_short size n (drop size (b ∷ bytes)))
 
+-- and blocks are cut
 blocks_short : (bytes : List ℕ) → All (λ (block : List ℕ). length block ≤ BLOCK_LEN) (blocks bytes)
 blocks_short bytes = cut_short BLOCK_LEN (length bytes) bytes
 
+-- the piece fits an empty pipe
 abbrev fits : Piece → Type 0
 fits p = size_of p ≤ PIPE_LEN
 
@@ -69,6 +74,7 @@ chunks_fit bytes =
     (All-map fits made (blocks bytes) (All-weaker (λ (block : List ℕ). length block ≤ BLOCK_LEN) (λ (block : List ℕ). length (chunk_text block) ≤ PIPE_LEN) chunk_fits (blocks bytes) (blocks_short bytes)))
     (All-cons fits (Own last_chunk) [] (lit≤ tt) (All-nil fits))
 
+-- a part of a file is a block at most
 parts_fit : (path : Text) (n at left : ℕ) → FitPipe (parts path n at left)
 parts_fit path zero at left = All-nil fits
 parts_fit path (suc n) at zero = All-nil fits
@@ -88,6 +94,7 @@ body_fits : (version : Version) (choice : Choice) (none : Bool) → FitPipe (if 
 body_fits version choice true = All-nil fits
 body_fits version choice false = content_fits version choice
 
+-- each piece of an answer fits an empty pipe
 pub pieces_fit : (q : Request) (a : Answer) → FitPipe (pieces_of q a)
 pieces_fit q a =
     All-append fits (plain_pieces (head_text a.status a.fields)) (if has_no_content q a.status then [] else content_pieces q.version a.choice)

@@ -24,8 +24,8 @@ pub struct Reply {
 }
 
 /// The reply of an exchange that completed, and used the content of its request so. Its record, which was taken out of it,
-/// goes on into the answer. Takes memory for the fields that the record does not have, and as `Sending::new` does; no
-/// content is copied.
+/// goes on into the answer. Each piece of it fits an empty pipe of `PIPE_LEN` bytes. Takes memory for the fields that the
+/// record does not have, and as `Sending::new` does; no content is copied.
 pub fn reply_to(
     alloc: Global,
     completed: &Completed,
