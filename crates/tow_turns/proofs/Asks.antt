@@ -1,12 +1,11 @@
 -- An exchange comes to wait for its content, and its client is told to send it.
-use Rattle.std.proofs.Common.{◌≡◌, ◌<◌, ◌≤◌, ℕ, Bool, true, false, List, length, Option, refl, sym, ap, subst, ◌∙◌, arith}
-use Rattle.circular_buffer.specs.Buffer.{Buffer}
+use Rattle.std.proofs.Common.{◌≡◌, ◌<◌, ◌+◌, ◌*◌, ℕ, Bool, true, false, List, length, Option, None, refl, sym, ap, subst, ◌∙◌, arith, lit<}
 use Rattle.tow_model.specs.declared.account.Role.{Role}
-use Rattle.tow_model.specs.declared.limits.TheConstants.{PIPE_LEN}
 use Rattle.tow_model.specs.declared.statement.Statement.{Statement}
+use Rattle.tow_model.specs.declared.limits.TheConstants.{PIPE_LEN}
 use Rattle.tow_semantics.specs.Files.{Files}
+use Rattle.circular_buffer.specs.Buffer.{Buffer}
 use Rattle.tow_peer.specs.Links.{LinkData}
-use Rattle.tow_port.specs.Ports.{room_of}
 use Rattle.tow_port.specs.declared.port.Port.{Port}
 use Rattle.tow_wire.specs.Answers.{continue_text}
 use Rattle.tow_exchange.specs.Exchanges.{ExchangeData}
@@ -24,12 +23,23 @@ use Rattle.tow_stages.specs.Moving.{over}
 use Rattle.tow_stages.proofs.Walks.{walkings_lead_on}
 use Rattle.tow_stages.proofs.Gathers.{gatherings_lead_on}
 use Rattle.tow_turns.specs.Data.{port_of}
-use Rattle.tow_turns.specs.Nexts.{IsForLoop, KeepsLink, StepFits, rank}
-use Rattle.tow_turns.specs.Safe.{IsAsking, IsOpen, IsSafe}
+use Rattle.tow_port.specs.Ports.{room_of}
+use Rattle.tow_turns.specs.Nexts.{StepFits, end_in, rank}
+use Rattle.tow_turns.specs.Safe.{IsOpen, IsSafe}
 use Rattle.tow_turns.specs.Steps.{Leads}
-use Rattle.tow_turns.specs.declared.stage.Then.TheVariants.{On, Write}
+use Rattle.tow_turns.specs.declared.stage.Then.TheVariants as thens
 use Rattle.tow_turns.proofs.Cuts.{comes_to, rests}
-use Rattle.tow_turns.proofs.Fits.{goes_on, waits_for, write_goes_not_on, write_reads_not}
+
+-- an exchange stays open over another port
+pub open_still : (tree : List Statement) (told : Option Files) (b : Base) (p : PortData) (e : ExchangeData) → IsOpen tree told b e
+    → IsOpen tree told (over p b) e
+open_still tree told b p e is = record {
+  connection = is.connection;
+  dated = is.dated;
+  sendable = is.sendable;
+  asks = is.asks;
+  places = is.places;
+}
 
 pub asked : (s : Setting) (b : Base) (e : ExchangeData) (g : Gathering) (to_tell : Bool) → e.phase ≡ AwaitsContent
     → Gathers g (unread e.request.framing) → to_tell ≡ is_to_be_told e.request → Leads s b b (walking e) (gathering e g to_tell)
@@ -61,65 +71,57 @@ invited s b e g to_tell p told is failed o c t h = record {
 pub waits_on : (s : Setting) (b : Base) (stage : Stage) (p : PortData) → p ≡ b.port → Leads s b (over p b) stage stage
 waits_on s b stage p is = subst (λ (x : PortData). Leads s b (over x b) stage stage) (sym is) (rests s b stage)
 
--- ---- whatever the link tells
-
-pub open_over : (tree : List Statement) (told : Option Files) (b : Base) (e : ExchangeData) (p : PortData) → IsOpen tree told b e
-    → IsOpen tree told (over p b) e
-open_over tree told b e p is = record {
-  connection = is.connection;
-  dated = is.dated;
-  sendable = is.sendable;
-  asks = is.asks;
-  places = is.places;
-}
-
-pub asks_safely : (tree : List Statement) (told : Option Files) (b : Base) (e : ExchangeData) (g : Gathering) → e.phase ≡ AwaitsContent
-    → Gathers g (unread e.request.framing) → IsOpen tree told b e → IsAsking tree told b e g
-asks_safely tree told b e g waits gathers is = record {
-  open_so = is;
-  waits = waits;
-  reading_so = unread e.request.framing;
-  gathers = gathers;
-}
-
 pub asking_is_near : (e : ExchangeData) (g : Gathering) (to_tell : Bool) → rank (gathering e g to_tell) < 7
-asking_is_near e g true = omega arith
-asking_is_near e g false = omega arith
+asking_is_near e g true = lit< tt
+asking_is_near e g false = lit< tt
 
-asking_over : (tree : List Statement) (told : Option Files) (b : Base) (e : ExchangeData) (g : Gathering) (p : PortData)
-    → IsAsking tree told b e g → IsAsking tree told (over p b) e g
-asking_over tree told b e g p is = record {
-  open_so = open_over tree told b e p is.open_so;
-  waits = is.waits;
-  reading_so = is.reading_so;
-  gathers = is.gathers;
+pub asking_goes_on : (e : ExchangeData) (g : Gathering) (to_tell : Bool) → end_in (gathering e g to_tell) ≡ None
+asking_goes_on e g to_tell = refl
+
+-- ---- that the step fits
+
+-- the client was told
+pub invited_fits : (role : Role) (tree : List Statement) (told : Option Files) (n n' : ℕ) (b : Base) (e : ExchangeData) (g : Gathering)
+    (to_tell : Bool) (p : PortData) → to_tell ≡ true → p ≡ as_put continue_text b.port → IsSafe tree told b (gathering e g to_tell)
+    → StepFits role tree told n n' b (over p b) (gathering e g to_tell) (gathering e g false) thens.On
+invited_fits role tree told n n' b e g false p told_so is safe = cc
+invited_fits role tree told n n' b e g true p told_so is safe = record {
+  safe = record {
+    open_so = open_still tree told b p e safe.open_so;
+    waits = safe.waits;
+    reading_so = safe.reading_so;
+    gathers = safe.gathers;
+  };
+  next = tt;
+  nearer = λ on. subst (λ (x : PortData). 8 * length x.input.items + 5 < 8 * length b.port.input.items + 6) (sym is) (omega arith);
+  keeps = record { link = ap (λ (x : PortData). x.link) is; ended_so = ap (λ (x : PortData). x.ended) is; number = refl };
+  waits = λ read. cc;
+  links = λ which. tt;
+  stays_over = λ over_so. over_so;
+  ends_so = λ end none. cc;
 }
 
-pub link_kept : (b : Base) (p : PortData) → p.link ≡ b.port.link → p.ended ≡ b.port.ended → KeepsLink b (over p b)
-link_kept b p link ended = record { link = link; ended_so = ended; number = refl }
+-- a pipe without room for the line holds something
+pub holds_some : (pipe : Buffer ℕ) → pipe.capacity ≡ PIPE_LEN → room_of pipe < length continue_text → 0 < length pipe.items
+holds_some pipe large full =
+    let short : length continue_text < PIPE_LEN = lit< tt in
+    omega (arith, large, full, short)
 
-module _ (role : Role) (tree : List Statement) (told : Option Files) (n n' : ℕ) (b : Base) (e : ExchangeData) (g : Gathering)
-    (to_tell : Bool) (p : PortData) (to_invite : to_tell ≡ true) (safe : IsSafe tree told b (gathering e g to_tell)) where
-  pub invited_fits : p ≡ as_put continue_text b.port
-      → StepFits role tree told n n' b (over p b) (gathering e g to_tell) (gathering e g false) On
-  invited_fits is =
-      let same : length p.input.items ≡ length b.port.input.items = ap (λ (x : PortData). length x.input.items) is in
-      let far : rank (gathering e g to_tell) ≡ 6 = ap (λ (x : Bool). rank (gathering e g x)) to_invite in
-      goes_on role tree told n n' b (over p b) (gathering e g to_tell) (gathering e g false) tt
-      (link_kept b p (ap (λ (x : PortData). x.link) is) (ap (λ (x : PortData). x.ended) is))
-      (asking_over tree told b e g p safe) (omega (arith, same, far)) tt
-
-  pub invite_waits : p ≡ b.port → p.output.capacity ≡ PIPE_LEN → room_of p.output < length continue_text
-      → StepFits role tree told n n' b (over p b) (gathering e g to_tell) (gathering e g to_tell) Write
-  invite_waits is capacity full =
-      let short : length continue_text ≤ 100 = omega arith in
-      let some : 0 < length p.output.items = omega (arith, capacity, full, short) in
-      waits_for role tree told n n' b (over p b) (gathering e g to_tell) (gathering e g to_tell) tt
-      (link_kept b p (ap (λ (x : PortData). x.link) is) (ap (λ (x : PortData). x.ended) is))
-      (asking_over tree told b e g p safe) Write write_goes_not_on
-      (
-        (λ none. subst (λ (x : Bool). IsForLoop (over p b) (gathering e g x)) (sym to_invite) full),
-        some,
-        tt,
-      )
-      (λ wrong. absurd (write_reads_not wrong)) refl
+-- there was no room for it
+pub waits_fits : (role : Role) (tree : List Statement) (told : Option Files) (n n' : ℕ) (b : Base) (e : ExchangeData) (g : Gathering)
+    (to_tell : Bool) (p : PortData) → to_tell ≡ true → p ≡ b.port → room_of b.port.output < length continue_text
+    → 0 < length b.port.output.items → IsSafe tree told b (gathering e g to_tell)
+    → StepFits role tree told n n' b (over p b) (gathering e g to_tell) (gathering e g to_tell) thens.Write
+waits_fits role tree told n n' b e g false p told_so is full some safe = cc
+waits_fits role tree told n n' b e g true p told_so is full some safe =
+    subst (λ (x : PortData). StepFits role tree told n n' b (over x b) (gathering e g true) (gathering e g true) thens.Write) (sym is)
+    (record {
+      safe = safe;
+      next = (λ worker. full, some, tt);
+      nearer = λ on. cc;
+      keeps = record { link = refl; ended_so = refl; number = refl };
+      waits = λ read. cc;
+      links = λ which. tt;
+      stays_over = λ over_so. over_so;
+      ends_so = λ end none. cc;
+    })

@@ -1,16 +1,13 @@
 -- A connection is cut.
-use Rattle.std.proofs.Common.{◌≡◌, ◌≢◌, ℕ, Bool, true, false, List, [], filter_map, reverse, Option, Some, None, refl, sym, ap, subst, ◌∙◌, append-nil}
+use Rattle.std.proofs.Common.{◌≡◌, ◌≢◌, ℕ, Bool, true, false, List, [], filter_map, reverse, Option, Some, None, refl, sym, ap, subst, ◌∙◌}
 use Rattle.tow_model.specs.declared.account.End.{End}
 use Rattle.tow_model.specs.declared.account.End.TheVariants.{Done}
-use Rattle.tow_model.specs.declared.record.Listener.{Listener}
 use Rattle.tow_model.specs.declared.statement.Statement.{Statement}
-use Rattle.tow_semantics.specs.Files.{Files}
 use Rattle.tow_model.specs.declared.record.Listener.{Listener}
 use Rattle.tow_semantics.specs.Files.{Files}
 use Rattle.tow_exchange.specs.Exchanges.{ExchangeData}
 use Rattle.tow_exchange.specs.Completions.{CompletedData, completion}
 use Rattle.tow_exchange.specs.declared.phase.Phase.TheVariants.{Stopped}
-use Rattle.tow_advance.specs.Moves.{AddsLogs}
 use Rattle.tow_program.specs.Actions.{formats_in}
 use Rattle.tow_program.specs.Programs.{program_of}
 use Rattle.tow_program.specs.declared.instruction.Instruction.{Instruction}
@@ -33,8 +30,6 @@ use Rattle.tow_stages.proofs.Gathers.{gatherings_lead_on}
 use Rattle.tow_stages.proofs.Answers.{adds_none, answerings_lead_on}
 use Rattle.tow_turns.specs.Nexts.{end_in}
 use Rattle.tow_turns.specs.Safe.{IsOpen, IsPuttable, IsSafe, calls_of}
-use Rattle.tow_turns.specs.Nexts.{end_in}
-use Rattle.tow_turns.specs.Safe.{IsOpen, IsSafe, calls_of}
 use Rattle.tow_turns.specs.Steps.{Comes, Leads}
 
 pub comes_to : (failed : Bool) (s : Setting) (o : Origin) (b : Base) (stage : Stage) (c : Progress) (t : Tally)
@@ -96,45 +91,6 @@ pub answer_leaves : (tree : List Statement) (told : Option Files) (b : Base) (d 
     → IsPuttable told b d pieces drain → IsSafe tree told b after
 answer_leaves tree told b d pieces drain end after is puttable =
     subst (λ (x : Stage). IsSafe tree told b x) (sym is) (puttable.places, tt)
-
-pub ends_so : (d : ClosingData) (end : End) (after : Stage) → after ≡ closing d None (Some end) → end_in after ≡ Some end
-ends_so d end after is = ap end_in is
-
--- ---- whatever the link tells
-
-adds_none : (listeners : List Listener) → AddsLogs listeners listeners
-adds_none listeners = ([], sym (append-nil listeners))
-
--- there are places for the leavings of its exchange
-open_places : (tree : List Statement) (told : Option Files) (b : Base) (e : ExchangeData) → IsOpen tree told b e
-    → HasPlacesFor b.room (calls_of b) (reverse e.stand.state.listeners)
-open_places tree told b e is =
-    (calls_have_places tree b.room (calls_of b)).completes e is.asks e.stand.state.listeners is.places (adds_none e.stand.state.listeners)
-
-pub closes_safely : (tree : List Statement) (told : Option Files) (b : Base) (d : ClosingData) (end : End) (after : Stage)
-    → after ≡ closing d None (Some end) → HasPlacesFor b.room (calls_of b) d.completed.left → IsSafe tree told b after
-closes_safely tree told b d end after is places = subst (λ (x : Stage). IsSafe tree told b x) (sym is) (places, tt)
-
-work_places : (room : ℕ) (t : Tally) (e : ExchangeData) (d : ClosingData) → d.completed ≡ completion e
-    → HasPlacesFor room t (reverse e.stand.state.listeners) → HasPlacesFor room t d.completed.left
-work_places room t e d is = subst (λ (c : CompletedData). HasPlacesFor room t c.left) (sym is)
-
-pub walking_cut_safely : (tree : List Statement) (told : Option Files) (b : Base) (e : ExchangeData) (d : ClosingData) (end : End)
-    (after : Stage) → after ≡ closing d None (Some end) → d.completed ≡ completion e → IsSafe tree told b (walking e)
-    → IsSafe tree told b after
-walking_cut_safely tree told b e d end after is work safe =
-    closes_safely tree told b d end after is (work_places b.room (calls_of b) e d work (open_places tree told b e safe.0))
-
-pub gathering_cut_safely : (tree : List Statement) (told : Option Files) (b : Base) (e : ExchangeData) (g : Gathering) (to_tell : Bool)
-    (d : ClosingData) (end : End) (after : Stage) → after ≡ closing d None (Some end) → d.completed ≡ completion e
-    → IsSafe tree told b (gathering e g to_tell) → IsSafe tree told b after
-gathering_cut_safely tree told b e g to_tell d end after is work safe =
-    closes_safely tree told b d end after is (work_places b.room (calls_of b) e d work (open_places tree told b e safe.open_so))
-
-pub answering_cut_safely : (tree : List Statement) (told : Option Files) (b : Base) (d : ClosingData) (pieces : List Piece) (closes : Bool)
-    (drain : Option (Drain ContentSource)) (end : End) (after : Stage) → after ≡ closing d None (Some end)
-    → IsSafe tree told b (answering d pieces closes drain) → IsSafe tree told b after
-answering_cut_safely tree told b d pieces closes drain end after is safe = closes_safely tree told b d end after is safe.places
 
 pub ends_so : (d : ClosingData) (end : End) (after : Stage) → after ≡ closing d None (Some end) → end_in after ≡ Some end
 ends_so d end after is = ap end_in is

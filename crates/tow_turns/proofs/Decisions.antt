@@ -4,36 +4,27 @@ use Rattle.std.proofs.Common.{◌≡◌, ◌<◌, Bool, true, false, List, rever
 use Rattle.tow_model.specs.declared.record.Choice.{Choice}
 use Rattle.tow_model.specs.declared.record.Listener.{Listener}
 use Rattle.tow_model.specs.declared.account.End.TheVariants.{NoMemory}
-use Rattle.tow_model.specs.declared.record.Listener.{Listener}
 use Rattle.tow_model.specs.declared.record.Record.{Record}
 use Rattle.tow_model.specs.declared.statement.Statement.{Statement}
 use Rattle.tow_semantics.specs.Files.{Files}
 use Rattle.tow_exchange.specs.Exchanges.{ExchangeData}
 use Rattle.tow_exchange.specs.Completions.{CompletedData, completion, without_listeners, without_record}
 use Rattle.tow_answer.specs.declared.content_use.ContentUse.{ContentUse}
-use Rattle.tow_answer.specs.declared.content_use.ContentUse.TheVariants.{Unasked, Served, Refused}
 use Rattle.tow_answer.specs.declared.content_use.ContentUse.TheVariants.{Refused, Served, Unasked}
 use Rattle.tow_replies.specs.Replies.{FitPipe, RepliesBy}
 use Rattle.tow_source.specs.Readings.{unread}
 use Rattle.tow_closing.specs.Closings.{ClosingData}
-use Rattle.tow_source.specs.Readings.{unread}
 use Rattle.tow_source.specs.declared.drain.Drain.{Drain}
 use Rattle.tow_content.specs.declared.source.ContentSource.{ContentSource}
 use Rattle.tow_sending.specs.Pieces.{HasFile, HasParts, Piece}
 use Rattle.tow_progress.specs.Progress.{Progress, Origin}
 use Rattle.tow_progress.specs.Accounts.{Tally}
-use Rattle.tow_states.specs.Calling.{HasPlacesFor}
 use Rattle.tow_states.specs.Known.{Setting}
 use Rattle.tow_states.specs.Calling.{HasPlacesFor}
 use Rattle.tow_states.specs.Closing.{IsWorkOf}
 use Rattle.tow_stages.specs.Answering.{AnswerBegins, IsDrainFor}
 use Rattle.tow_stages.specs.Holding.{Holds}
 use Rattle.tow_stages.specs.Stages.{Base, Stage, answering, closing}
-use Rattle.tow_turns.specs.Contents.{DropsSome}
-use Rattle.tow_turns.specs.Folders.{HasPartsIn}
-use Rattle.tow_turns.specs.Nexts.{end_in, rank}
-use Rattle.tow_turns.specs.Safe.{IsPuttable, IsSafe, calls_of}
-use Rattle.tow_turns.proofs.Cuts.{closes_safely}
 use Rattle.tow_turns.specs.Contents.{DropsSome}
 use Rattle.tow_turns.specs.Folders.{HasPartsIn}
 use Rattle.tow_turns.specs.Nexts.{end_in, rank}
@@ -142,55 +133,3 @@ pub is_short : (failed : Bool) (s : Setting) (o : Origin) (b : Base) (e : Exchan
     → IsTaken s.tree e d after state → AnswerBegins failed s o b e content_use c t → Holds failed s o b stage c t
 is_short failed s o b e content_use c t d after state stage so is begins =
     subst (λ (x : Stage). Holds failed s o b x c t) (sym so) (begins.is_short after (same_work s.tree e d after state is))
-
--- ---- whatever the link tells
-
--- what is dropped has come somewhere in its content
-drops_some : (content_use : ContentUse) (e : ExchangeData) (closes : Bool) (drain : Option (Drain ContentSource))
-    → IsDrainFor content_use e closes drain → DropsSome drain
-drops_some Unasked e true drain is = subst (λ (x : Option (Drain ContentSource)). DropsSome x) (sym is) tt
-drops_some Unasked e false None is = absurd is
-drops_some Unasked e false (Some drain) is = (unread e.request.framing, is)
-drops_some Served e closes drain is = subst (λ (x : Option (Drain ContentSource)). DropsSome x) (sym is) tt
-drops_some Refused e closes drain is = subst (λ (x : Option (Drain ContentSource)). DropsSome x) (sym is) tt
-
-module _ (e : ExchangeData) (d after : ClosingData) (state : Record) (completed : d.completed ≡ completion e) where
-  parts_told : (told : Option Files) (pieces : List Piece) → state ≡ without_listeners d.completed.state
-      → ((files : Files) → HasFile files state.choice → HasParts files pieces)
-      → IfSome told (λ files. HasFile files e.stand.state.choice) → HasPartsIn told pieces
-  parts_told told pieces state_is there has = λ files is.
-      let file : IfSome (Some files) (λ files. HasFile files e.stand.state.choice) =
-      subst (λ (o : Option Files). IfSome o (λ files. HasFile files e.stand.state.choice)) is has in
-      there files (subst (λ (x : Record). HasFile files x.choice)
-      (sym (state_is ∙ ap (λ (x : CompletedData). without_listeners x.state) completed)) file)
-
-  places_told : (room : ℕ) (t : Tally) → after ≡ taken_from d → HasPlacesFor room t (reverse e.stand.state.listeners)
-      → HasPlacesFor room t after.completed.left
-  places_told room t taken =
-      subst (λ (l : List Listener). HasPlacesFor room t l)
-      (sym (ap (λ (x : ClosingData). x.completed.left) taken ∙ ap (λ (x : CompletedData). x.left) completed))
-
-  pub answers_safely : (told : Option Files) (b : Base) (content_use : ContentUse) (pieces : List Piece) (closes : Bool)
-      (drain : Option (Drain ContentSource)) → after ≡ taken_from d → state ≡ without_listeners d.completed.state
-      → ((files : Files) → HasFile files state.choice → HasParts files pieces) → FitPipe pieces → IsDrainFor content_use e closes drain
-      → IfSome told (λ files. HasFile files e.stand.state.choice) → HasPlacesFor b.room (calls_of b) (reverse e.stand.state.listeners)
-      → IsPuttable told b after pieces drain
-  answers_safely told b content_use pieces closes drain taken state_is there fit drains has places = record {
-    parts = parts_told told pieces state_is there has;
-    fit = fit;
-    drops = drops_some content_use e closes drain drains;
-    places = places_told b.room (calls_of b) taken places;
-  }
-
-  pub short_safely : (tree : List Statement) (told : Option Files) (b : Base) (stage : Stage)
-      → stage ≡ closing after None (Some NoMemory) → after ≡ taken_from d
-      → HasPlacesFor b.room (calls_of b) (reverse e.stand.state.listeners) → IsSafe tree told b stage
-  short_safely tree told b stage is taken places =
-      closes_safely tree told b after NoMemory stage is (places_told b.room (calls_of b) taken places)
-
-pub short_is_near : (d : ClosingData) (stage : Stage) → stage ≡ closing d None (Some NoMemory) → rank stage < 5
-short_is_near d stage is = let far : rank stage ≡ 3 = ap rank is in omega (arith, far)
-
-pub short_ends : (d : ClosingData) (stage : Stage) → stage ≡ closing d None (Some NoMemory)
-    → IfSome (end_in stage) (λ end. end ≡ NoMemory)
-short_ends d stage is = subst (λ (x : Stage). IfSome (end_in x) (λ end. end ≡ NoMemory)) (sym is) refl

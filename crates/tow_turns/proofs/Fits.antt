@@ -1,5 +1,5 @@
 -- What a step has to show that begins at a stage where an exchange, or a refusal, is under way.
-use Rattle.std.proofs.Common.{◌≡◌, ◌≢◌, ◌⊎◌, inl, inr, ◌<◌, ℕ, List, Option, Some, None, subst}
+use Rattle.std.proofs.Common.{◌≡◌, ◌≢◌, ◌⊎◌, inl, inr, ◌↔◌, ◌<◌, ℕ, Bool, true, false, IsTrue, List, Option, Some, None, subst}
 use Rattle.tow_model.specs.declared.account.Role.{Role}
 use Rattle.tow_model.specs.declared.account.End.{End}
 use Rattle.tow_model.specs.declared.statement.Statement.{Statement}
@@ -7,6 +7,7 @@ use Rattle.tow_semantics.specs.Files.{Files}
 use Rattle.tow_stages.specs.Stages.{Base, Stage, answering, closing, ended, gathering, reading, refusing, walking}
 use Rattle.tow_turns.specs.Cuts.{IsLive}
 use Rattle.tow_turns.specs.Nexts.{IsNext, IsOver, IsOwnEnd, KeepsLink, StepFits, end_in, weight}
+use Rattle.tow_turns.specs.Roles.{IsLoop}
 use Rattle.tow_turns.specs.Safe.{IsSafe}
 use Rattle.tow_turns.specs.declared.stage.Then.{Then}
 use Rattle.tow_turns.specs.declared.stage.Then.TheVariants.{On, Read, Write}
@@ -19,6 +20,9 @@ live_is_not_over (gathering e g to_tell) live over = over
 live_is_not_over (answering d pieces closes drain) live over = over
 live_is_not_over (closing d owed end) live over = live
 live_is_not_over (ended end) live over = live
+
+pub is_no_loop : (role : Role) (answer : Bool) → (IsTrue answer ↔ IsLoop role) → answer ≡ false → IsLoop role → ⊥
+is_no_loop role answer tells is loop = let yes : answer ≡ true = tells.1 loop in cc
 
 on_is_not_read : On ≡ Read → ⊥
 on_is_not_read is = cc

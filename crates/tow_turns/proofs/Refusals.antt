@@ -13,24 +13,21 @@ use Rattle.tow_stages.specs.Stages.{Base, ended, refusing}
 use Rattle.tow_stages.specs.Holding.{Holds}
 use Rattle.tow_stages.proofs.Heads.{refusals_lead_on}
 use Rattle.tow_turns.specs.Nexts.{StepFits}
+use Rattle.tow_turns.specs.Puttings.{with_output}
 use Rattle.tow_turns.specs.Steps.{Leads}
 use Rattle.tow_turns.specs.declared.stage.Then.TheVariants.{On, Write}
 use Rattle.tow_turns.proofs.Fits.{goes_on, waits_for, write_goes_not_on, write_reads_not}
 
--- with another pipe of output
-abbrev pub fed_to : Buffer ℕ → Base → Base
-fed_to output b = record b { port = record b.port { output = output } }
-
 pub refusal_put : (s : Setting) (b : Base) (left rest : List ℕ) (count : ℕ) (output : Buffer ℕ)
     → output ≡ buffer (b.port.output.items ++ take count left) b.port.output.capacity → rest ≡ drop count left
-    → Leads s b (fed_to output b) (refusing left) (refusing rest)
+    → Leads s b (with_output output b) (refusing left) (refusing rest)
 refusal_put s b left rest count output put same failed o c t h =
     let split : left ≡ take count left ++ rest = sym (take-append-drop count left) ∙ ap (λ (l : List ℕ). take count left ++ l) (sym same) in
     let after = (refusals_lead_on failed s o b left c t h).puts (take count left) rest split in
     record {
       progress = with_piece (take count left) c;
       tally = t;
-      holds = subst (λ (out : Buffer ℕ). Holds failed s o (fed_to out b) (refusing rest) (with_piece (take count left) c) t) (sym put) after;
+      holds = subst (λ (out : Buffer ℕ). Holds failed s o (with_output out b) (refusing rest) (with_piece (take count left) c) t) (sym put) after;
       same_lines = refl;
     }
 
@@ -53,9 +50,9 @@ some_to_write left items count capacity output put most size some =
 
 module _ (role : Role) (tree : List Statement) (told : Option Files) (n n' : ℕ) (b : Base) (left : List ℕ) where
   pub refusal_waits : (rest : List ℕ) (output : Buffer ℕ) → 0 < length output.items
-      → StepFits role tree told n n' b (fed_to output b) (refusing left) (refusing rest) Write
+      → StepFits role tree told n n' b (with_output output b) (refusing left) (refusing rest) Write
   refusal_waits rest output some =
-      waits_for role tree told n n' b (fed_to output b) (refusing left) (refusing rest) tt
+      waits_for role tree told n n' b (with_output output b) (refusing left) (refusing rest) tt
       (record { link = refl; ended_so = refl; number = refl }) tt Write write_goes_not_on ((λ none. some), some, tt)
       (λ wrong. absurd (write_reads_not wrong)) refl
 

@@ -1,5 +1,6 @@
 -- The listeners of an exchange run one after another.
-use Rattle.std.proofs.Common.{◌≡◌, ◌≢◌, ◌⊎◌, inl, inr, ◌×◌, ◌<◌, ℕ, List, [], ◌∷◌, length, Option, Some, None, refl, sym, ap, subst, ◌∙◌, arith}
+use Rattle.std.proofs.Common.{◌≡◌, ◌≢◌, ◌⊎◌, inl, inr, ◌<◌, ℕ, List, [], ◌∷◌, length, Option, Some, None, refl, sym, ap, subst, ◌∙◌, arith}
+use Rattle.circular_buffer.specs.Buffer.{Buffer}
 use Rattle.tow_model.specs.declared.account.Role.{Role}
 use Rattle.tow_model.specs.declared.account.End.{End}
 use Rattle.tow_model.specs.declared.account.End.TheVariants.{NoMemory}
@@ -30,11 +31,8 @@ use Rattle.tow_turns.proofs.Fits.{comes_itself}
 
 -- ---- one listener
 
-pub leaves_next : (limit : ℕ) (d new : ClosingData) (c : Completing) → Does (work.Leave limit) d new → c.closing ≡ new
-    → c.owed ≡ Some limit → left_in c.owed c.closing ≡ d.completed.left
-leaves_next limit d new c does is owed =
-    ap (λ (o : Option ℕ). left_in o c.closing) owed ∙ ap (λ (x : ClosingData). left_in (Some limit) x) is
-    ∙ sym (ap (λ x. x.left) does.0)
+pub leaves_next : (limit : ℕ) (d new : ClosingData) → Does (work.Leave limit) d new → left_in (Some limit) new ≡ d.completed.left
+leaves_next limit d new does = sym (ap (λ x. x.left) does.0)
 
 pub tells_next : (number : ℕ) (text : Option Text) (d new : ClosingData) (end : Option End) (after : Stage)
     → Does (work.Tell number text) d new → IsTold new end after → Runs d.completed.left end after On
@@ -96,6 +94,10 @@ written_still : (x y : Option End) (b : Base) → EndStays x y → IsWritten x b
 written_still x y b (inl same) written = subst (λ (e : Option End). IsWritten e b) (sym same) written
 written_still x y b (inr is) written = subst (λ (e : Option End). IsWritten e b) (sym is) tt
 
+written_in : (end : Option End) (b c : Base) → c.port.output ≡ b.port.output → IsWritten end b → IsWritten end c
+written_in None b c same written = ap (λ (x : Buffer ℕ). x.items) same ∙ written
+written_in (Some end) b c same written = tt
+
 over_still : (d d' : ClosingData) (owed owed' : Option ℕ) (x y : Option End) → EndStays x y → IsOver (closing d owed x)
     → IsOver (closing d' owed' y)
 over_still d d' owed owed' None y so over = absurd over
@@ -151,8 +153,10 @@ module _ (role : Role) (tree : List Statement) (told : Option Files) (n n' : ℕ
       let places : HasPlacesFor a.room (calls_of a) (left_in new.owed new.closing) =
       subst (λ (l : List Listener). HasPlacesFor a.room (calls_of a) l) (sym same) (ran.places (calls_of a) safe.0) in
       record {
-        safe = subst (λ (x : Base). IsSafe tree told x (closing new.closing new.owed new.end)) (sym kept)
-            (places, written_still old.end new.end a so safe.1);
+        safe = (
+          subst (λ (x : Base). HasPlacesFor x.room (calls_of x) (left_in new.owed new.closing)) (sym kept) places,
+          written_in new.end a c (ap (λ (x : Base). x.port.output) kept) (written_still old.end new.end a so safe.1),
+        );
         next = (loop, owed);
         nearer = λ is. absurd (stop_is_not_on limit is);
         keeps = link_kept;
