@@ -80,10 +80,12 @@ cut_answering s b d pieces closes drain end after is fault failed o c t h =
 pub open_leaves : (tree : List Statement) (told : Option Files) (b : Base) (e : ExchangeData) (d : ClosingData) (end : End) (after : Stage)
     → after ≡ closing d None (Some end) → d.completed ≡ completion e → IsOpen tree told b e → IsSafe tree told b after
 open_leaves tree told b e d end after is completed is_open =
-    subst (λ (x : Stage). IsSafe tree told b x) (sym is)
-    (subst (λ (l : List Listener). HasPlacesFor b.room (calls_of b) l) (sym (ap (λ (x : CompletedData). x.left) completed))
-    ((calls_have_places tree b.room (calls_of b)).completes e is_open.asks e.stand.state.listeners is_open.places
-    (adds_none e.stand.state.listeners)), tt)
+    subst (λ (x : Stage). IsSafe tree told b x) (sym is) (
+      subst (λ (l : List Listener). HasPlacesFor b.room (calls_of b) l) (sym (ap (λ (x : CompletedData). x.left) completed))
+          ((calls_have_places tree b.room (calls_of b)).completes e is_open.asks e.stand.state.listeners is_open.places
+          (adds_none e.stand.state.listeners)),
+      tt,
+    )
 
 -- those of an answer are
 pub answer_leaves : (tree : List Statement) (told : Option Files) (b : Base) (d : ClosingData) (pieces : List Piece)

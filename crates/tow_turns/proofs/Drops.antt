@@ -131,8 +131,7 @@ module _ (role : Role) (tree : List Statement) (told : Option Files) (n n' : ℕ
         let room : length pipe.items ≡ 0 = ap (λ (l : List ℕ). length l) empty in
         waits_for role tree told n n' b (taken_by pipe b) before (answering d pieces closes (Some new)) tt
         (record { link = refl; ended_so = refl; number = refl })
-        (record { parts = safe.parts; fit = safe.fit; drops = reads; places = safe.places }) Read (λ is. cc)
-        (
+        (record { parts = safe.parts; fit = safe.fit; drops = reads; places = safe.places }) Read (λ is. cc) (
           (λ other. subst (λ (p : List Piece). IsForLoop (taken_by pipe b) (answering d p closes (Some new))) (sym none) tt),
           subst (λ (p : List Piece). ReadsLink (taken_by pipe b) (answering d p closes (Some new))) (sym none)
               (omega (arith, room, capacity), open_still),

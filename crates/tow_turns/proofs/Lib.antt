@@ -8,3 +8,4 @@ pub mod Decisions
 pub mod Sends
 pub mod Asks
 pub mod Drops
+pub mod Puts

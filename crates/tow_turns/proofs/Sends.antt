@@ -24,9 +24,13 @@ use Rattle.tow_stages.specs.Stages.{Base, answering}
 use Rattle.tow_stages.specs.Holding.{Holds}
 use Rattle.tow_stages.proofs.Answers.{answerings_lead_on}
 use Rattle.tow_turns.specs.Folders.{HasFolder, HasPartsIn, IsFolderOf, told_under}
-use Rattle.tow_turns.specs.Puttings.{HasPut, IsFileNext, IsFull, with_output}
+use Rattle.tow_turns.specs.Puttings.{HasPut, IsFileNext, IsFull, KeepsAnswer, with_output}
 use Rattle.tow_turns.specs.Roles.{IsLoop}
+use Rattle.tow_turns.specs.Contents.{DropsSome}
+use Rattle.tow_turns.specs.Safe.{IsPuttable, calls_of}
 use Rattle.tow_turns.specs.Steps.{Leads}
+use Rattle.tow_turns.specs.declared.stage.Answering.{Answering}
+use Rattle.tow_states.specs.Calling.{HasPlacesFor}
 
 gains_capacity : (told : Option Files) (pieces : List Piece) (old new : Buffer ℕ) → GainsFirst told pieces old new
     → new.capacity ≡ old.capacity
@@ -112,12 +116,9 @@ put_no_fault room (Own bytes ∷ rest) is = put_room_no_fault (nat_lt room (leng
 put_no_fault room (Part path at len ∷ rest) is = cc
 
 none_looks : {F : Type 0} (role : Role) (folder : Option F) → folder ≡ None → may_look role folder ≡ false
-none_looks role folder is = ap (λ x. may_look role x) is ∙ by role
-  where
-    by : (r : Role) → may_look r None ≡ false
-    by (Loop i) = refl
-    by (Worker i) = refl
-    by Main = refl
+none_looks (Loop i) folder is = ap (λ x. may_look (Loop i) x) is
+none_looks (Worker i) folder is = ap (λ x. may_look (Worker i) x) is
+none_looks Main folder is = ap (λ x. may_look Main x) is
 
 -- who has no folder is an I/O loop
 pub none_is_loop : {F : Type 0} (role : Role) (folder : Option F) → folder ≡ None → HasFolder role folder → IsLoop role
@@ -228,6 +229,18 @@ has_put role sent.Full pieces new old pipe told left full stops =
     let none : IsFull pieces old = is_full role pieces old (sym (told (λ is. cc))) in
     subst (λ (l : List Piece). IsFull l pipe) (sym left) (subst (λ (x : Buffer ℕ). IsFull pieces x) (sym (full refl)) none)
 has_put role sent.FolderFault pieces new old pipe told left full stops = tt
+
+-- what is left can be put still
+pub puttable_still : (told : Option Files) (b b' : Base) (old new : Answering) (tells : Sent) (pipe : Buffer ℕ) → b' ≡ with_output pipe b
+    → KeepsAnswer old new → new.sending ≡ left_after tells old.sending → HasPartsIn told new.sending
+    → IsPuttable told b old.closing old.sending old.drain → IsPuttable told b' new.closing new.sending new.drain
+puttable_still told b b' old new tells pipe base keeps left parts is = record {
+  parts = parts;
+  fit = subst FitPipe (sym left) (fit_left tells old.sending is.fit);
+  drops = subst DropsSome (sym keeps.drain) is.drops;
+  places = subst (λ (d : ClosingData). HasPlacesFor b'.room (calls_of b') d.completed.left) (sym keeps.closing)
+      (subst (λ (x : Base). HasPlacesFor x.room (calls_of x) old.closing.completed.left) (sym base) is.places);
+}
 
 -- ---- a folder that was asked
 

@@ -184,8 +184,7 @@ module _ (k : ℕ) where
       let l1 = first.0 in
       let l2 = second.0 in
       let s1 = first.1.shared in
-      let s2 = second.1.shared in
-      (
+      let s2 = second.1.shared in (
         omega (arith, l1, l2),
         record { own = λ other is. second.1.own other is ∙ first.1.own other is; shared = omega (arith, s1, s2) },
       )

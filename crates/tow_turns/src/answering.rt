@@ -1,6 +1,6 @@
 //! The answer of an exchange is put.
 
-ghost use Rattle.std.specs.Prelude.{◌≡◌, ◌≢◌, ◌≤◌, List, Some, length};
+ghost use Rattle.std.specs.Prelude.{◌<◌, ◌≡◌, ◌≢◌, ◌≤◌, List, Some, length, true};
 ghost use Rattle.tow_model.specs.declared.statement.Statement.{Statement};
 ghost use Rattle.tow_semantics.specs.Files.{Files};
 ghost use Rattle.tow_link.specs.Data.{Rose};
@@ -85,11 +85,20 @@ fn put_some<L: Link, F: Folder>(
     'pieces: loop {
         let (next, sent) = put_next(base, answering, role, folder);
         answering = next;
-        let goes_on = sent == Sent::Piece && (!is_loop(role) || base.port.output.len() == 0);
-        if !goes_on {
+        let Sent::Piece = sent else {
+            return (answering, sent);
+        };
+        if is_to_write(role, base.port.output.len()) {
             return (answering, sent);
         }
     }
+}
+
+/// Whether an I/O loop is to write what stands in the pipe of output, of so many bytes.
+fn is_to_write(role: Role, len: usize) -> bool
+    ensures { result ≡ true → IsLoop role × (0 < len) }
+{
+    is_loop(role) && len > 0
 }
 
 /// Puts the next piece, if there is one, and tells what became of it. Takes no memory.

@@ -42,9 +42,13 @@ pub fn close_on<L: Link, G: LogSink>(
 {
     let mut completing = completing;
     'listeners: loop {
-        match close_by(base, completing, log) {
-            (Stage::Closing(next), Then::On) => completing = next,
-            (stage, then) => return (stage, then),
+        let (stage, then) = close_by(base, completing, log);
+        let Then::On = then else {
+            return (stage, then);
+        };
+        match stage {
+            Stage::Closing(next) => completing = next,
+            other => return (other, then),
         }
     }
 }

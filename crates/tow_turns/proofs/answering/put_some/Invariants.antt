@@ -21,7 +21,7 @@ invariant-pieces g l = record {
   base : base_of g.L.Link.shows l.base ≡ with_output l.base.port.output (base_of g.L.Link.shows l.initial.base);
   grows : length l.initial.base.port.output.items ≤ length l.base.port.output.items;
   folder : FolderStays g.F.Folder.shows l.initial.base.number l.initial.folder l.folder;
-  idle : IsLoop l.role → l.folder ≡ l.initial.folder
+  idle : IsLoop l.role → l.folder ≡ l.initial.folder;
 }
 
 -- how many pieces are left

@@ -14,7 +14,7 @@ invariant-listeners g l = record {
   faults : KeepsFaults l.initial.base.number (Some (g.G.LogSink.shows l.initial.log)) (Some (g.G.LogSink.shows l.log));
   steps : (s : Setting) → LeadsTelling (Some (g.G.LogSink.shows l.initial.log)) (Some (g.G.LogSink.shows l.log)) s
       (base_of g.L.Link.shows l.initial.base) (base_of g.L.Link.shows l.base)
-      (stage_of (stage.Closing l.initial.completing)) (stage_of (stage.Closing l.completing))
+      (stage_of (stage.Closing l.initial.completing)) (stage_of (stage.Closing l.completing));
 }
 
 -- how many listeners are left

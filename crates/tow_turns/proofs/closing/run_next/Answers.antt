@@ -17,13 +17,12 @@ returns-in-Some-Leave-clause-steps g c =
     c.in-Some-Leave.ensures.lost
 
 pub returns-in-Some-Leave-clause-runs : goal.returns-in-Some-Leave-clause-runs
-returns-in-Some-Leave-clause-runs g c =
-    (
-      refl,
-      leaves_next c.in-Some-Leave.limit c.args.closing c.next.new.self
-          (subst (λ (w : Work). Does w c.args.closing c.next.new.self) c.in-Some-Leave.field-0-is c.in-Some-Leave.ensures.some),
-      refl,
-    )
+returns-in-Some-Leave-clause-runs g c = (
+  refl,
+  leaves_next c.in-Some-Leave.limit c.args.closing c.next.new.self
+      (subst (λ (w : Work). Does w c.args.closing c.next.new.self) c.in-Some-Leave.field-0-is c.in-Some-Leave.ensures.some),
+  refl,
+)
 
 pub returns-in-Some-Tell-clause-runs : goal.returns-in-Some-Tell-clause-runs
 returns-in-Some-Tell-clause-runs g c =

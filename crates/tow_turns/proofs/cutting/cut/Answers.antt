@@ -38,7 +38,7 @@ pub returns-in-Reading : goal.returns-in-Reading
 returns-in-Reading c =
     record {
       steps = λ s b same. from_stage s b c.args.stage stage.Reading (model.ended c.args.end) c.in-Reading.is
-      (cut_reading s b c.args.end c.requires.fault);
+          (cut_reading s b c.args.end c.requires.fault);
       safe = λ tree told b safe. tt;
       ends = λ live. refl;
     }
@@ -47,7 +47,7 @@ pub returns-in-Refusing : goal.returns-in-Refusing
 returns-in-Refusing c =
     record {
       steps = λ s b same. from_stage s b c.args.stage (stage.Refusing c.in-Refusing.field-0) (model.ended c.args.end) c.in-Refusing.is
-      (cut_refusing s b _ c.args.end c.requires.fault);
+          (cut_refusing s b _ c.args.end c.requires.fault);
       safe = λ tree told b safe. tt;
       ends = λ live. refl;
     }
@@ -57,10 +57,10 @@ returns-in-Walking c =
     let early = early_in c.args.stage (stage.Walking c.in-Walking.exchange) c.in-Walking.is c.requires.early in
     record {
       steps = λ s b same. from_stage s b c.args.stage (stage.Walking c.in-Walking.exchange) (stage_of c.ended_after.result) c.in-Walking.is
-      (cut_walking s b c.in-Walking.exchange c.work_of.result c.args.end (stage_of c.ended_after.result) c.ended_after.ensures.stage
-      c.requires.fault early.1 (c.work_of.ensures.work s.tree same));
+          (cut_walking s b c.in-Walking.exchange c.work_of.result c.args.end (stage_of c.ended_after.result) c.ended_after.ensures.stage
+          c.requires.fault early.1 (c.work_of.ensures.work s.tree same));
       safe = λ tree told b safe. open_leaves tree told b c.in-Walking.exchange c.work_of.result c.args.end (stage_of c.ended_after.result) c.ended_after.ensures.stage
-      c.work_of.ensures.completed (safe_in tree told b c.args.stage (stage.Walking c.in-Walking.exchange) c.in-Walking.is safe).0;
+          c.work_of.ensures.completed (safe_in tree told b c.args.stage (stage.Walking c.in-Walking.exchange) c.in-Walking.is safe).0;
       ends = λ live. ends_so c.work_of.result c.args.end (stage_of c.ended_after.result) c.ended_after.ensures.stage;
     }
 
@@ -68,12 +68,12 @@ pub returns-in-Gathering : goal.returns-in-Gathering
 returns-in-Gathering c =
     record {
       steps = λ s b same. from_stage s b c.args.stage (stage.Gathering c.in-Gathering.asking) (stage_of c.ended_after-in-Gathering.result) c.in-Gathering.is
-      (cut_gathering s b c.in-Gathering.asking.exchange c.in-Gathering.asking.gathering c.in-Gathering.asking.to_invite
-      c.work_of-in-Gathering.result c.args.end (stage_of c.ended_after-in-Gathering.result) c.ended_after-in-Gathering.ensures.stage
-      c.requires.fault (c.work_of-in-Gathering.ensures.work s.tree same));
+          (cut_gathering s b c.in-Gathering.asking.exchange c.in-Gathering.asking.gathering c.in-Gathering.asking.to_invite
+          c.work_of-in-Gathering.result c.args.end (stage_of c.ended_after-in-Gathering.result) c.ended_after-in-Gathering.ensures.stage
+          c.requires.fault (c.work_of-in-Gathering.ensures.work s.tree same));
       safe = λ tree told b safe. open_leaves tree told b c.in-Gathering.asking.exchange c.work_of-in-Gathering.result c.args.end
-      (stage_of c.ended_after-in-Gathering.result) c.ended_after-in-Gathering.ensures.stage c.work_of-in-Gathering.ensures.completed
-      (safe_in tree told b c.args.stage (stage.Gathering c.in-Gathering.asking) c.in-Gathering.is safe).open_so;
+          (stage_of c.ended_after-in-Gathering.result) c.ended_after-in-Gathering.ensures.stage c.work_of-in-Gathering.ensures.completed
+          (safe_in tree told b c.args.stage (stage.Gathering c.in-Gathering.asking) c.in-Gathering.is safe).open_so;
       ends = λ live. ends_so c.work_of-in-Gathering.result c.args.end (stage_of c.ended_after-in-Gathering.result) c.ended_after-in-Gathering.ensures.stage;
     }
 
@@ -81,12 +81,12 @@ pub returns-in-Answering : goal.returns-in-Answering
 returns-in-Answering c =
     record {
       steps = λ s b same. from_stage s b c.args.stage (stage.Answering c.in-Answering.answering) (stage_of c.ended_after-in-Answering.result) c.in-Answering.is
-      (cut_answering s b c.in-Answering.answering.closing c.in-Answering.answering.sending c.in-Answering.answering.closes
-      c.in-Answering.answering.drain c.args.end (stage_of c.ended_after-in-Answering.result) c.ended_after-in-Answering.ensures.stage
-      c.requires.fault);
+          (cut_answering s b c.in-Answering.answering.closing c.in-Answering.answering.sending c.in-Answering.answering.closes
+          c.in-Answering.answering.drain c.args.end (stage_of c.ended_after-in-Answering.result) c.ended_after-in-Answering.ensures.stage
+          c.requires.fault);
       safe = λ tree told b safe. answer_leaves tree told b c.in-Answering.answering.closing c.in-Answering.answering.sending
-      c.in-Answering.answering.drain c.args.end (stage_of c.ended_after-in-Answering.result) c.ended_after-in-Answering.ensures.stage
-      (safe_in tree told b c.args.stage (stage.Answering c.in-Answering.answering) c.in-Answering.is safe);
+          c.in-Answering.answering.drain c.args.end (stage_of c.ended_after-in-Answering.result) c.ended_after-in-Answering.ensures.stage
+          (safe_in tree told b c.args.stage (stage.Answering c.in-Answering.answering) c.in-Answering.is safe);
       ends = λ live. ends_so c.in-Answering.answering.closing c.args.end (stage_of c.ended_after-in-Answering.result) c.ended_after-in-Answering.ensures.stage;
     }
 

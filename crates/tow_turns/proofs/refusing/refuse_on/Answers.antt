@@ -24,7 +24,7 @@ returns g c =
     let rest = drop (c.args.refusal.put + c.put-count.result) c.args.refusal.text in
     let some : 0 < length c.left_of-left.result.now + length output.items =
     elim c.else-is_empty.branch [
-        else-is_empty-via-then-is_empty+else-len-eq0 w ↦ grind (arith, w.len.ensures, w.if-len-eq0.false)
+      | else-is_empty-via-then-is_empty+else-len-eq0 w ↦ grind (arith, w.len.ensures, w.if-len-eq0.false)
       | else-is_empty-via-else-is_empty w ↦ grind (arith, c.is_empty.ensures, w.if-is_empty.false)
     ] in
     record {
