@@ -1,0 +1,4 @@
+pub mod Moments
+pub mod Views
+pub mod Begins
+pub mod Refusals

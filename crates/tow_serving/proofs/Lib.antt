@@ -1,0 +1,4 @@
+pub mod Steps
+pub mod Gives
+pub mod Gathers
+pub mod Walks
