@@ -9,7 +9,7 @@ pub(crate) const UNBUILT: &[Noted] = &[
     ),
     (
         b"path(/a) -> done\npath(/b) -> { header(header=x, value=echo); echo }\nelse access-log",
-        "note: 2:44: this is not built yet, so ask refuses the text: `echo`\nnote: 3:6: this is not built yet, so ask refuses the text: `access-log`\n",
+        "note: 2:45: this is not built yet, so ask refuses the text: `echo`\nnote: 3:6: this is not built yet, so ask refuses the text: `access-log`\n",
     ),
     (
         b"path(echo, resource) -> request-limit(1)",
