@@ -1,4 +1,5 @@
 pub mod Causes
+pub mod Comments
 pub mod Drawn
 pub mod Forms
 pub mod Lines

@@ -1,19 +1,17 @@
 -- What is wrong with the name of a call, and with a parameter.
-use Rattle.std.specs.Prelude.{ℕ, Bool, ◌&&◌, ◌==◌, nat_lt, List, length, slice_index, is_some, bytes_eq, Option, None, Some, if◌then◌else◌}
+use Rattle.std.specs.Prelude.{ℕ, Bool, ◌==◌, List, length, is_some, bytes_eq, Option, None, Some, if◌then◌else◌}
 use Rattle.std.specs.List.{list_any}
 use Rattle.tow_language.specs.Table.{handler_named, takes_array, test_named}
 use Rattle.tow_language.specs.declared.table.Shape.{Shape}
 use Rattle.tow_language.specs.declared.table.Shape.TheVariants as shapes
 use Rattle.tow_language.specs.declared.signatures.Parameter.{Parameter}
+use Rattle.tow_explain.specs.Comments.{begins_comment}
 use Rattle.tow_explain.specs.declared.cause.Cause.{Cause}
 use Rattle.tow_explain.specs.declared.cause.Cause.TheVariants as causes
 use Rattle.tow_explain.specs.declared.spot.Form.{Form}
 use Rattle.tow_explain.specs.declared.spot.Form.TheVariants as forms
 use Rattle.tow_explain.specs.declared.spot.Spot.{Spot}
 use Rattle.tow_explain.specs.declared.spot.Spot.TheVariants as spots
-
-abbrev pub begins_comment : List ℕ → Bool
-begins_comment name = nat_lt 0 (length name) && (slice_index name 0 == 35)
 
 -- a name of the other table, or of none
 abbrev pub unknown_name : Bool → List ℕ → Cause
@@ -36,19 +34,23 @@ text_cause shapes.Tokens = causes.BadMethod
 text_cause shapes.Writable = causes.NotOneAttribute
 text_cause _ = causes.BadValue
 
-abbrev pub form_cause : Form → Shape → Cause
-form_cause forms.Further shape = causes.TakesOne
-form_cause forms.Among shape = causes.ArrayAmong
-form_cause forms.Empty shape = if takes_array shape then causes.EmptyArray else causes.ArrayForText
-form_cause forms.Array shape = if takes_array shape then text_cause shape else causes.ArrayForText
-form_cause forms.Text shape = text_cause shape
+-- a value too many: for the call, or for its first parameter
+abbrev pub further_cause : List Parameter → Cause
+further_cause ps = if length ps == 1 then causes.OneTooMany else causes.TakesOne
 
-abbrev pub value_cause : Form → Option Shape → Cause
-value_cause form None = causes.TakesNone
-value_cause form (Some shape) = form_cause form shape
+abbrev pub form_cause : Form → Shape → List Parameter → Cause
+form_cause forms.Further shape ps = further_cause ps
+form_cause forms.Among shape ps = causes.ArrayAmong
+form_cause forms.Empty shape ps = if takes_array shape then causes.EmptyArray else causes.ArrayForText
+form_cause forms.Array shape ps = if takes_array shape then text_cause shape else causes.ArrayForText
+form_cause forms.Text shape ps = text_cause shape
+
+abbrev pub value_cause : Form → Option Shape → List Parameter → Cause
+value_cause form None ps = causes.TakesNone
+value_cause form (Some shape) ps = form_cause form shape ps
 
 -- what is wrong at a spot of a call with these parameters: a parameter is missing, or is unknown or given twice, or has a wrong value
 abbrev pub spot_cause : Spot → List Parameter → Cause
 spot_cause spots.Call ps = causes.Missing
 spot_cause (spots.Name name) ps = if is_parameter name.now ps then causes.GivenTwice else causes.UnknownParameter
-spot_cause (spots.Value form shape) ps = value_cause form shape
+spot_cause (spots.Value form shape) ps = value_cause form shape ps

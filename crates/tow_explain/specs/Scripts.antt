@@ -62,6 +62,12 @@ opens kinds.OpenSquare = true
 opens kinds.OpenBrace = true
 opens _ = false
 
+-- it opens the brackets of a call, or the parentheses of a predicate
+abbrev pub is_bracket : Option TokenKind → Bool
+is_bracket (Some kinds.OpenRound) = true
+is_bracket (Some kinds.OpenSquare) = true
+is_bracket _ = false
+
 -- it closes a bracket
 abbrev pub closes : TokenKind → Bool
 closes kinds.CloseRound = true

@@ -13,6 +13,8 @@ pub enum Cause {
     TooLong,
     /// A quote is opened, and not closed.
     UnclosedQuote,
+    /// A quote in what was to be a comment.
+    CommentQuote,
     /// A brace of a word is opened, and not closed.
     UnclosedBrace,
     /// No sequence of UTF-8 begins.
@@ -21,14 +23,20 @@ pub enum Cause {
     ByteOrderMark,
     /// A character outside ASCII, and outside quotes.
     NotAscii,
+    /// A character outside ASCII in what was to be a comment.
+    CommentCharacter,
     /// A control byte outside quotes.
     ControlByte,
-    /// What follows a `#`.
+    /// What was to be a comment.
     Comment,
+    /// An `if`.
+    NoIf,
     /// `=>` for an arrow.
     FatArrow,
     /// A line end in the midst of a statement.
     EarlyLineEnd,
+    /// What goes on with a statement that a line end has ended.
+    AfterLineEnd,
     /// Something is left open.
     LeftOpen,
     /// A closing bracket without an opening one.
@@ -45,12 +53,18 @@ pub enum Cause {
     AfterCall,
     /// What may not follow a statement.
     AfterStatement,
+    /// Brackets after `restart` or `done`.
+    NoBrackets,
     /// Values with names and without.
     Mixed,
     /// No value.
     WantsValue,
     /// What may not follow a value.
     AfterValue,
+    /// A word after a text in quotes.
+    AfterQuoted,
+    /// A line that begins where a call is still open.
+    StillOpen,
     /// No text of an array.
     WantsText,
     /// What may not follow a text of an array.
@@ -67,7 +81,7 @@ pub enum Cause {
     HandlerForPredicate,
     /// A predicate, and a handler is wanted.
     PredicateForHandler,
-    /// A `#` that was to begin a comment.
+    /// What was to begin a comment.
     CommentName,
     /// A parameter without a default is not written.
     Missing,
@@ -79,6 +93,8 @@ pub enum Cause {
     TakesNone,
     /// Several values for a parameter that takes one.
     TakesOne,
+    /// Several values for a call that takes one.
+    OneTooMany,
     /// An array among several values.
     ArrayAmong,
     /// An array for a parameter that takes one text.
@@ -122,13 +138,18 @@ impl Cause {
     {
         match self {
             Cause::TooLong => Kind::TooLong,
-            Cause::UnclosedQuote => Kind::UnclosedQuote,
+            Cause::UnclosedQuote | Cause::CommentQuote => Kind::UnclosedQuote,
             Cause::UnclosedBrace => Kind::UnclosedBrace,
-            Cause::NotUtf8 | Cause::ByteOrderMark | Cause::NotAscii | Cause::ControlByte =>
-                Kind::StrayByte,
+            Cause::NotUtf8
+            | Cause::ByteOrderMark
+            | Cause::NotAscii
+            | Cause::CommentCharacter
+            | Cause::ControlByte => Kind::StrayByte,
             Cause::Comment
+            | Cause::NoIf
             | Cause::FatArrow
             | Cause::EarlyLineEnd
+            | Cause::AfterLineEnd
             | Cause::LeftOpen
             | Cause::ClosesNothing
             | Cause::LoneElse
@@ -137,9 +158,12 @@ impl Cause {
             | Cause::WantsStatement
             | Cause::AfterCall
             | Cause::AfterStatement
+            | Cause::NoBrackets
             | Cause::Mixed
             | Cause::WantsValue
             | Cause::AfterValue
+            | Cause::AfterQuoted
+            | Cause::StillOpen
             | Cause::WantsText
             | Cause::AfterText
             | Cause::InGroup => Kind::Unexpected,
@@ -154,6 +178,7 @@ impl Cause {
             | Cause::GivenTwice
             | Cause::TakesNone
             | Cause::TakesOne
+            | Cause::OneTooMany
             | Cause::ArrayAmong
             | Cause::ArrayForText
             | Cause::EmptyArray
@@ -180,14 +205,19 @@ impl Cause {
         match self {
             Cause::TooLong => "the text goes on past its limit of 65536 bytes",
             Cause::UnclosedQuote => "this quote is opened here and not closed",
+            Cause::CommentQuote => "a text has no comments, so this quote opens a value",
             Cause::UnclosedBrace => "this brace is opened here and not closed before the line ends",
             Cause::NotUtf8 => "this byte begins no character of UTF-8",
             Cause::ByteOrderMark => "a byte order mark stands before the text",
             Cause::NotAscii => "this character may stand in quotes alone",
+            Cause::CommentCharacter =>
+                "a text has no comments, and this character may stand in quotes alone",
             Cause::ControlByte => "this control byte may stand in quotes alone",
             Cause::Comment => "a text has no comments",
+            Cause::NoIf => "a text has no if",
             Cause::FatArrow => "an arrow is written ->",
             Cause::EarlyLineEnd => "the line ends here, and its statement goes on",
+            Cause::AfterLineEnd => "the line end before this has ended its statement",
             Cause::LeftOpen => "this is opened and not closed",
             Cause::ClosesNothing => "this closes nothing that is open",
             Cause::LoneElse => "this else follows no statement with a predicate",
@@ -196,9 +226,12 @@ impl Cause {
             Cause::WantsStatement => "a statement is wanted here",
             Cause::AfterCall => "this may not follow a call",
             Cause::AfterStatement => "this may not follow a statement",
+            Cause::NoBrackets => "restart and done take no parameters",
             Cause::Mixed => "values with names and without may not be mixed",
             Cause::WantsValue => "a value is wanted here",
             Cause::AfterValue => "this may not follow a value",
+            Cause::AfterQuoted => "this may not follow a text in quotes",
+            Cause::StillOpen => "this stands in what is opened and not closed",
             Cause::WantsText => "a text is wanted here in the array",
             Cause::AfterText => "this may not follow a text of an array",
             Cause::InGroup => "this may not follow a predicate in parentheses",
@@ -213,6 +246,7 @@ impl Cause {
             Cause::GivenTwice => "this parameter is given twice",
             Cause::TakesNone => "the call has no parameters",
             Cause::TakesOne => "the parameter takes one value, and this is one more",
+            Cause::OneTooMany => "the call takes one value, and this is one more",
             Cause::ArrayAmong => "an array stands among several values",
             Cause::ArrayForText => "the parameter takes one text, and this is an array",
             Cause::EmptyArray => "this array is empty",
@@ -220,7 +254,7 @@ impl Cause {
             Cause::BadNumber => "this is no number within the bounds",
             Cause::BadTruth => "this is neither true nor false",
             Cause::BadMatch =>
-                "this path has a segment that is neither a text nor a name in braces",
+                "a segment of this path is neither a text nor a name in braces, or a name stands twice",
             Cause::BadMethod => "this is no method, since a method is a token",
             Cause::NotOneAttribute => "this is not one attribute",
             Cause::BadValue => "the call does not take this value",
@@ -242,15 +276,21 @@ impl Cause {
         match self {
             Cause::TooLong => "leave out what is not needed: a text has at most 65536 bytes",
             Cause::UnclosedQuote =>
-                "write the same quote where the value ends, or close one before it",
+                "write the same quote where the value ends, or close one before it; in a value put a backslash before it",
+            Cause::CommentQuote => "remove what was to be a comment",
             Cause::UnclosedBrace => "write } after the name of the attribute",
             Cause::NotUtf8 => "save the text as UTF-8",
             Cause::ByteOrderMark => "save the text as UTF-8 without a byte order mark",
-            Cause::NotAscii => "put the whole value in quotes",
+            Cause::NotAscii =>
+                "write plain quotes round the whole value, or a plain character in its place",
+            Cause::CommentCharacter => "remove what was to be a comment",
             Cause::ControlByte => "remove it, or put the whole value in quotes",
             Cause::Comment => "remove what was to be a comment",
+            Cause::NoIf => "write PREDICATE -> TARGET, and else for what is done otherwise",
             Cause::FatArrow => "write -> in place of =>",
             Cause::EarlyLineEnd => "go on with the statement on the same line",
+            Cause::AfterLineEnd =>
+                "write it on the line before; in ( ) a predicate may go on over lines",
             Cause::LeftOpen => "write the closing one: ) for (, ] for [, } for {",
             Cause::ClosesNothing => "remove it, or open it before",
             Cause::LoneElse => "write else directly after PREDICATE -> TARGET, once",
@@ -259,24 +299,33 @@ impl Cause {
             Cause::WantsStatement => "write a target, or PREDICATE -> TARGET",
             Cause::AfterCall => "write ->, and, or; or end the statement by a line end or ;",
             Cause::AfterStatement => "end the statement by a line end or ;",
+            Cause::NoBrackets => "write the word alone",
             Cause::Mixed => "write NAME = VALUE for each value, or one value without a name",
             Cause::WantsValue => "write a word, a text in quotes, or an array { .. }",
             Cause::AfterValue =>
                 "write , or close the bracket; quote a value with a space or ( ) [ ] { } , = ;",
+            Cause::AfterQuoted =>
+                "write , or close the bracket; if this is to be in quotes, a quote before it is not closed",
+            Cause::StillOpen => "close it where the call ends, or write , before this",
             Cause::WantsText => "write a word or a text in quotes; no array stands in an array",
             Cause::AfterText => "write , or }",
             Cause::InGroup => "write and, or, or )",
-            Cause::TooDeep => "at most 32 blocks, parentheses, not and else are open at once",
-            Cause::UnknownPredicate => "a predicate is wanted here: the case of letters counts",
-            Cause::UnknownHandler => "a handler is wanted here: the case of letters counts",
+            Cause::TooDeep =>
+                "at most 32 blocks, parentheses, not and else are open at once: split the statement",
+            Cause::UnknownPredicate =>
+                "write a predicate: true, false, path, path-prefix, path-suffix, path-template, regex, method, equals, contains or exists",
+            Cause::UnknownHandler =>
+                "write a handler: set, clear, rewrite, redirect, response-code, header, allowed-methods, request-limit, resource, blocking, access-log or echo",
             Cause::HandlerForPredicate => "write a predicate here, and the handler after ->",
             Cause::PredicateForHandler => "write -> and a target after the predicate",
             Cause::CommentName => "remove what was to be a comment",
             Cause::Missing => "write it: NAME = VALUE",
-            Cause::UnknownParameter => "write one of the names below",
+            Cause::UnknownParameter =>
+                "write one of the names below, or quote the value of which this is a part",
             Cause::GivenTwice => "write it once",
             Cause::TakesNone => "write its name alone",
-            Cause::TakesOne => "write the further parameters by name: NAME = VALUE",
+            Cause::TakesOne => "write each value by name: NAME = VALUE",
+            Cause::OneTooMany => "remove it; if it is a part of the value, quote the whole value",
             Cause::ArrayAmong => "write all texts in one array { .. }, or none of them",
             Cause::ArrayForText => "write one text without { }",
             Cause::EmptyArray => "write one text at least",
@@ -285,18 +334,19 @@ impl Cause {
             Cause::BadTruth => "write true or false",
             Cause::BadMatch =>
                 "write each segment as text without braces or as {name}, each once, and quote it",
-            Cause::BadMethod => "write letters, digits and ! # $ % & * + - . ^ _ | ~",
+            Cause::BadMethod =>
+                "write each method by itself, in letters, digits and ! # $ % & * + - . ^ _ | ~",
             Cause::NotOneAttribute => "write one attribute and nothing else, as %R or %{o,name}",
             Cause::BadValue => "write what the list below has",
             Cause::NoAttribute =>
-                "write %% for a percent sign, or one of the attributes, as %R, %{i,name}, ${name}",
+                "write %% for a percent sign, or an attribute: %m %U %R %q %s %r %H %a %h %l %u %t %B %b %{i,name} %{o,name} %{q,name} %{c,name} ${name}",
             Cause::NoFieldName => "write letters, digits and ! # $ % & * + - . ^ _ | ~",
             Cause::NotWritable => "what may be written: %R, %q, %s, %{o,name} and ${name}",
-            Cause::KeptField => "write another field",
+            Cause::KeptField => "leave it out, or write another field",
             Cause::TooManyLimits =>
                 "a text has at most 16: remove one, or let several places use one block",
             Cause::NoPattern =>
-                "close each ( [ {, and put a backslash before such a byte that stands for itself",
+                "mend it at that byte; a backslash makes a byte stand for itself; no look-around or back-reference is known",
             Cause::LargePattern => "write smaller counts in { }",
         }
     }

@@ -6,6 +6,7 @@ ghost use Rattle.tow_language.specs.declared.kind.Kind.TheVariants as kinds;
 
 use crate::attribute::{bad_attribute, is_response_field, spelled};
 use crate::cause::Cause;
+use crate::comment::is_in_comment;
 use crate::diagnosis::Diagnosis;
 use crate::line::position;
 use crate::open::open_before;
@@ -72,7 +73,7 @@ pub fn diagnose(alloc: Global, text: &[u8], kind: Kind, place: usize) -> Result<
     };
     match kind {
         Kind::TooLong => plain(alloc, Cause::TooLong),
-        Kind::UnclosedQuote => plain(alloc, Cause::UnclosedQuote),
+        Kind::UnclosedQuote => plain(alloc, quote_cause(text, place)),
         Kind::UnclosedBrace => plain(alloc, Cause::UnclosedBrace),
         Kind::TooDeep => plain(alloc, Cause::TooDeep),
         Kind::TooManyLimits => plain(alloc, Cause::TooManyLimits),
@@ -120,12 +121,27 @@ fn tokens_of(alloc: Global, text: &[u8]) -> Result<Vec<Token>, NoMemory> {
     }
 }
 
+/// What is wrong with a quote at the place, which is not closed.
+fn quote_cause(text: &[u8], place: usize) -> Cause
+    ensures { kind_of result ≡ kinds.UnclosedQuote }
+{
+    if is_in_comment(text, place) {
+        Cause::CommentQuote
+    } else {
+        Cause::UnclosedQuote
+    }
+}
+
 fn diagnose_stray(alloc: Global, text: &[u8], place: usize) -> Result<Diagnosis, NoMemory>
     ensures { IfOk result (λ d. kind_of d.cause ≡ kinds.StrayByte) }
 {
     let rest = part(text, place, text.len());
     let (cause, size) = stray(rest, place == 0);
-    about(alloc, cause, part(rest, 0, size), None)
+    let subject = part(rest, 0, size);
+    if cause == Cause::NotAscii && is_in_comment(text, place) {
+        return about(alloc, Cause::CommentCharacter, subject, None);
+    }
+    about(alloc, cause, subject, None)
 }
 
 /// The diagnosis of the pattern that the token is, with what `regex` says of it.
@@ -144,18 +160,26 @@ fn diagnose_unexpected(alloc: Global, here: &Here<'_>) -> Result<Diagnosis, NoMe
     ensures { IfOk result (λ d. kind_of d.cause ≡ kinds.Unexpected) }
 {
     let cause = unexpected(&here.script, here.index, here.open);
-    if cause == Cause::LeftOpen {
-        return left_open(alloc, &here.script, here.open);
+    if cause == Cause::LeftOpen || cause == Cause::StillOpen {
+        return open_still(alloc, cause, &here.script, here.open);
+    }
+    if cause == Cause::NoIf {
+        return plain(alloc, cause);
     }
     about(alloc, cause, one_line(here.script.bytes(here.index)), None)
 }
 
-/// The diagnosis that what the last of these tokens opens is left open.
-fn left_open(alloc: Global, script: &Script<'_>, open: &[usize]) -> Result<Diagnosis, NoMemory>
-    ensures { IfOk result (λ d. kind_of d.cause ≡ kinds.Unexpected) }
+/// The diagnosis of this cause, about what the last of these tokens opens.
+fn open_still(
+    alloc: Global,
+    cause: Cause,
+    script: &Script<'_>,
+    open: &[usize],
+) -> Result<Diagnosis, NoMemory>
+    ensures { IfOk result (λ d. d.cause ≡ cause) }
 {
     let [.., last] = open else {
-        return plain(alloc, Cause::LeftOpen);
+        return plain(alloc, cause);
     };
     let index = *last;
     let mut subject = Vec::from_slice(alloc, script.bytes(index))?;
@@ -163,7 +187,7 @@ fn left_open(alloc: Global, script: &Script<'_>, open: &[usize]) -> Result<Diagn
     let place = format!(in alloc; " of {line}:{column}")?;
     subject.extend_from_slice(place.as_bytes())?;
     Ok(Diagnosis {
-        cause: Cause::LeftOpen,
+        cause,
         subject: Bytes::from_vec(subject),
         call: None,
     })

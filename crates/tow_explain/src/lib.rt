@@ -7,6 +7,7 @@
 //! - `cause`: all that can be wrong, with its sentences; `form`: what a call takes; `page`: all of
 //!   it as a person reads it
 //! - `script`, `open`: the tokens of the text, and what is open at one of them
+//! - `comment`: what was to be a comment
 //! - `stray`, `unexpected`, `unknown`, `spot`, `parameter`, `attribute`, `pattern`: what is wrong,
 //!   by the kind of the fault
 //! - `diagnose`, `diagnosis`, `explaining`: the way from a kind and a place to the page
@@ -15,6 +16,7 @@
 mod attribute;
 mod cause;
 mod cell;
+mod comment;
 mod cut;
 mod diagnose;
 mod diagnosis;

@@ -1,7 +1,7 @@
 //! Where in a call a parameter is wrong, and which.
 
 use crate::open::{Within, surroundings};
-use crate::script::{Script, closes, opens};
+use crate::script::{Script, closes, is_bracket, opens};
 use crate::spot::{Form, Spot};
 use crate::unexpected::{is_named, is_parameter_name};
 use tow_language::{Handler, Parameter, Shape, Signature, TestName, TokenKind};
@@ -167,8 +167,4 @@ fn is_written(script: &Script<'_>, bracket: usize, name: &[u8], is_first: bool) 
         }
     }
     false
-}
-
-fn is_bracket(kind: Option<TokenKind>) -> bool {
-    matches!(kind, Some(TokenKind::OpenRound | TokenKind::OpenSquare))
 }

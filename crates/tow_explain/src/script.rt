@@ -169,6 +169,13 @@ pub fn opens(kind: TokenKind) -> bool
     )
 }
 
+/// Whether this opens the brackets of a call, or the parentheses of a predicate.
+pub fn is_bracket(kind: Option<TokenKind>) -> bool
+    ensures { result ≡ model.is_bracket kind }
+{
+    matches!(kind, Some(TokenKind::OpenRound | TokenKind::OpenSquare))
+}
+
 /// Whether a token of this kind closes a bracket.
 pub fn closes(kind: TokenKind) -> bool
     ensures { result ≡ model.closes kind }

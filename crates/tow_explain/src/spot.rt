@@ -42,7 +42,7 @@ pub fn spot_cause(spot: Spot<'_>, parameters: &[Parameter]) -> Cause
     match spot {
         Spot::Call => Cause::Missing,
         Spot::Name(name) => name_cause(name, parameters),
-        Spot::Value { form, shape } => value_cause(form, shape),
+        Spot::Value { form, shape } => value_cause(form, shape, parameters),
     }
 }
 
@@ -65,20 +65,32 @@ fn is_parameter(name: &[u8], parameters: &[Parameter]) -> bool
     parameters.iter().any(|parameter| parameter.name == name)
 }
 
-fn value_cause(form: Form, shape: Option<Shape>) -> Cause
-    ensures cause { result ≡ model.value_cause form shape }
+fn value_cause(form: Form, shape: Option<Shape>, parameters: &[Parameter]) -> Cause
+    ensures cause { result ≡ model.value_cause form shape parameters.now }
     ensures kind { kind_of result ≡ kinds.BadParameter }
 {
     let Some(shape) = shape else {
         return Cause::TakesNone;
     };
     match form {
-        Form::Further => Cause::TakesOne,
+        Form::Further => further_cause(parameters),
         Form::Among => Cause::ArrayAmong,
         Form::Empty if takes_array(shape) => Cause::EmptyArray,
         Form::Array if takes_array(shape) => text_cause(shape),
         Form::Empty | Form::Array => Cause::ArrayForText,
         Form::Text => text_cause(shape),
+    }
+}
+
+/// What is wrong with a further value without a name in a call with these parameters.
+fn further_cause(parameters: &[Parameter]) -> Cause
+    ensures cause { result ≡ model.further_cause parameters.now }
+    ensures kind { kind_of result ≡ kinds.BadParameter }
+{
+    if parameters.len() == 1 {
+        Cause::OneTooMany
+    } else {
+        Cause::TakesOne
     }
 }
 

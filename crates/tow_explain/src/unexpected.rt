@@ -3,12 +3,12 @@
 ghost use Rattle.std.specs.Prelude.{◌≡◌};
 ghost use Rattle.tow_explain.specs.Causes.{kind_of};
 ghost use Rattle.tow_explain.specs.Misplaced as model;
-ghost use Rattle.tow_explain.specs.Scripts.{bytes_at};
 ghost use Rattle.tow_language.specs.declared.kind.Kind.TheVariants as kinds;
 
 use crate::cause::Cause;
+use crate::comment::begins_comment;
 use crate::open::{Within, surroundings};
-use crate::script::{Script, closes};
+use crate::script::{Script, closes, is_bracket};
 use tow_language::TokenKind;
 
 /// Why this token may not follow those before it, of which these are open.
@@ -28,6 +28,7 @@ pub fn unexpected(script: &Script<'_>, index: usize, open: &[usize]) -> Cause
     match surroundings(script, open) {
         Within::List => in_list(script, index),
         Within::Group => in_group(script, index),
+        Within::Call(name) if script.is_word(name, b"if") => Cause::NoIf,
         Within::Call(_name) => in_call(script, index, open),
         Within::Array(_name) => in_array(script, index),
     }
@@ -67,28 +68,38 @@ fn in_list(script: &Script<'_>, index: usize) -> Cause
     if script.is_word(index, b"else") {
         return Cause::LoneElse;
     }
+    if begins_line(script, index) && goes_on(script, index) {
+        return Cause::AfterLineEnd;
+    }
     match script.kind(index) {
         Some(TokenKind::Equals) if is_arrow_head(script, index) => Cause::FatArrow,
         Some(TokenKind::Newline) => Cause::EarlyLineEnd,
         _ => match before {
-            Some(before) => after_token(script, before),
+            Some(before) => after_token(script, index, before),
             None => Cause::WantsStatement,
         },
     }
 }
 
-/// Whether the token, or the one before it, begins with `#`.
+/// Whether the token, or the one before it, was to begin a comment.
 fn is_comment(script: &Script<'_>, index: usize) -> bool
     ensures { result ≡ model.is_comment script.now.text.now script.now.tokens.now index }
 {
-    begins_comment(script, index) || index > 0 && begins_comment(script, index - 1)
+    begins_comment(script.bytes(index)) || index > 0 && begins_comment(script.bytes(index - 1))
 }
 
-fn begins_comment(script: &Script<'_>, index: usize) -> bool
-    ensures { result
-        ≡ model.begins_with 35 (bytes_at script.now.text.now script.now.tokens.now index) }
+/// Whether a line end stands before the token.
+fn begins_line(script: &Script<'_>, index: usize) -> bool
+    ensures { result ≡ model.begins_line script.now.tokens.now index }
 {
-    matches!(script.bytes(index), [b'#', ..])
+    index > 0 && script.is_line_end(index - 1)
+}
+
+/// Whether the token goes on with a statement that has begun.
+fn goes_on(script: &Script<'_>, index: usize) -> bool
+    ensures { result ≡ model.goes_on script.now.text.now script.now.tokens.now index }
+{
+    matches!(script.kind(index), Some(TokenKind::Arrow)) || script.is_joint(index)
 }
 
 /// Whether what follows the token is the head of an arrow.
@@ -98,22 +109,25 @@ fn is_arrow_head(script: &Script<'_>, index: usize) -> bool
     matches!(script.bytes(script.behind(index)), [b'>', ..])
 }
 
-/// What is wrong with what follows this token in a list of statements.
-fn after_token(script: &Script<'_>, before: usize) -> Cause
-    ensures cause { result ≡ model.after_token script.now.text.now script.now.tokens.now before }
+/// What is wrong with a token that follows the second one in a list of statements.
+fn after_token(script: &Script<'_>, index: usize, before: usize) -> Cause
+    ensures cause { result
+        ≡ model.after_token script.now.text.now script.now.tokens.now index before }
     ensures kind { kind_of result ≡ kinds.Unexpected }
 {
     match script.kind(before) {
         Some(TokenKind::Arrow) => Cause::WantsTarget,
         Some(TokenKind::CloseRound | TokenKind::CloseSquare) => Cause::AfterCall,
         Some(TokenKind::CloseBrace) => Cause::AfterStatement,
-        Some(TokenKind::Word) => after_word(script, before),
+        Some(TokenKind::Word) => after_word(script, index, before),
         _ => Cause::WantsStatement,
     }
 }
 
-fn after_word(script: &Script<'_>, before: usize) -> Cause
-    ensures cause { result ≡ model.after_word script.now.text.now script.now.tokens.now before }
+/// What is wrong with a token that follows a word, which is the second one.
+fn after_word(script: &Script<'_>, index: usize, before: usize) -> Cause
+    ensures cause { result
+        ≡ model.after_word script.now.text.now script.now.tokens.now index before }
     ensures kind { kind_of result ≡ kinds.Unexpected }
 {
     if script.is_joint(before) {
@@ -121,9 +135,23 @@ fn after_word(script: &Script<'_>, before: usize) -> Cause
     } else if script.is_word(before, b"else") {
         Cause::WantsStatement
     } else if script.is_reserved(before) {
-        Cause::AfterStatement
+        after_end(script.kind(index))
+    } else if script.is_word(before, b"if") {
+        Cause::NoIf
     } else {
         Cause::AfterCall
+    }
+}
+
+/// What is wrong with what follows `restart` or `done`.
+fn after_end(here: Option<TokenKind>) -> Cause
+    ensures cause { result ≡ model.after_end here }
+    ensures kind { kind_of result ≡ kinds.Unexpected }
+{
+    if is_bracket(here) {
+        Cause::NoBrackets
+    } else {
+        Cause::AfterStatement
     }
 }
 
@@ -155,7 +183,7 @@ fn in_call(script: &Script<'_>, index: usize, open: &[usize]) -> Cause
         return Cause::Mixed;
     }
     match script.before(index, true) {
-        Some(before) => after_in_call(script, before, named),
+        Some(before) => after_in_call(script, index, before, named),
         None => Cause::WantsValue,
     }
 }
@@ -181,10 +209,10 @@ pub fn is_parameter_name(script: &Script<'_>, index: usize) -> bool
     }
 }
 
-/// What is wrong with what follows this token in the brackets of a call whose values have names, or
-/// none.
-fn after_in_call(script: &Script<'_>, before: usize, named: bool) -> Cause
-    ensures cause { result ≡ model.after_in_call script.now.tokens.now before named }
+/// What is wrong with a token that follows the second one in the brackets of a call whose values
+/// have names, or none.
+fn after_in_call(script: &Script<'_>, index: usize, before: usize, named: bool) -> Cause
+    ensures cause { result ≡ model.after_in_call script.now.tokens.now index before named }
     ensures kind { kind_of result ≡ kinds.Unexpected }
 {
     match script.kind(before) {
@@ -192,6 +220,20 @@ fn after_in_call(script: &Script<'_>, before: usize, named: bool) -> Cause
         Some(TokenKind::OpenRound | TokenKind::OpenSquare) => Cause::WantsValue,
         Some(TokenKind::Comma | TokenKind::Equals) => Cause::WantsValue,
         _ if named && follows_comma(script, before) => Cause::Mixed,
+        value => after_value(script, index, value),
+    }
+}
+
+/// What is wrong with a token that follows a value, whose last token is of this kind.
+fn after_value(script: &Script<'_>, index: usize, value: Option<TokenKind>) -> Cause
+    ensures cause { result ≡ model.after_value script.now.tokens.now index value }
+    ensures kind { kind_of result ≡ kinds.Unexpected }
+{
+    if begins_line(script, index) {
+        return Cause::StillOpen;
+    }
+    match (value, script.kind(index)) {
+        (Some(TokenKind::Quoted), Some(TokenKind::Word)) => Cause::AfterQuoted,
         _ => Cause::AfterValue,
     }
 }

@@ -6,6 +6,7 @@ ghost use Rattle.tow_explain.specs.Names as model;
 ghost use Rattle.tow_language.specs.declared.kind.Kind.TheVariants as kinds;
 
 use crate::cause::Cause;
+use crate::comment::begins_comment;
 use crate::open::{Within, surroundings};
 use crate::script::Script;
 use tow_language::{Handler, TestName, TokenKind};
@@ -36,13 +37,6 @@ fn unknown_name(wants_predicate: bool, name: &[u8]) -> Cause
             None => Cause::UnknownHandler,
         }
     }
-}
-
-/// Whether the bytes begin with `#`.
-fn begins_comment(name: &[u8]) -> bool
-    ensures { result ≡ model.begins_comment name.now }
-{
-    !name.is_empty() && name[0] == b'#'
 }
 
 /// Whether the call of this name stands where a predicate is wanted.

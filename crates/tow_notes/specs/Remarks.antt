@@ -17,3 +17,4 @@ words_of remarks.EqualsOfOne = codes "one value is equal to itself, so this alwa
 words_of remarks.PathInAddress = codes "this is decoded, so the address may be another one; write %U"
 words_of remarks.RemainingInAddress = codes "this is decoded, and //host in it leads away; write a host or path before a group of a regex over %U"
 words_of remarks.WholeFolder = codes "what is not found there is looked for in the whole folder; write response-code(404) after it"
+words_of remarks.Unbuilt = codes "this is not built yet, so ask refuses the text"

@@ -9,6 +9,7 @@
 //! - `stop`, `level`, `flow`, `mark`: which statements are never reached, and what is left to the
 //!   whole folder
 //! - `notes`: all notes on a text
+//! - `unbuilt`: the calls of a text that `ask` does not do yet
 #![tactic(auto)]
 
 mod call;
@@ -23,6 +24,8 @@ mod stop;
 mod template;
 #[cfg(test)]
 mod tests;
+mod unbuilt;
 mod value;
 
 pub use notes::notes_on;
+pub use unbuilt::unbuilt_on;

@@ -32,6 +32,8 @@ pub enum Remark {
     RemainingInAddress,
     /// A location after which the text can end.
     WholeFolder,
+    /// for now: a handler that is not built.
+    Unbuilt,
 }
 
 impl Remark {
@@ -58,6 +60,7 @@ impl Remark {
                 "this is decoded, and //host in it leads away; write a host or path before a group of a regex over %U",
             Remark::WholeFolder =>
                 "what is not found there is looked for in the whole folder; write response-code(404) after it",
+            Remark::Unbuilt => "this is not built yet, so ask refuses the text",
         }
     }
 }

@@ -3,3 +3,4 @@
 mod noting;
 mod remarks;
 mod right;
+mod unbuilt;

@@ -8,7 +8,7 @@ use std::rt::HostRuntime;
 use tow_explain::explain;
 use tow_link::PackMaker;
 use tow_model::{Bytes, NoMemory};
-use tow_notes::notes_on;
+use tow_notes::{notes_on, unbuilt_on};
 use tow_real::{Failure, SystemHost};
 use tow_site::{Fault, compile};
 
@@ -68,7 +68,7 @@ fn explanation(alloc: Global, text: &[u8]) -> Result<Bytes, NoMemory> {
         }
         Err(Fault::NoMemory) => Err(NoMemory),
         // for now: the text is right, and uses what is not built yet.
-        Ok(_site) => Ok(Bytes::from_slice(alloc, b"tow: the text uses what is not built yet\n")?),
+        Ok(_site) => unbuilt_on(alloc, text),
     }
 }
 

@@ -129,7 +129,7 @@ pub(crate) const FAULTS: &[Row] = &[
         Kind::Unexpected,
         1,
         8,
-        "this may not follow a statement: `(`",
+        "restart and done take no parameters: `(`",
     ),
     (
         b"path(/a) and\nmethod(GET) -> done",
@@ -235,14 +235,14 @@ pub(crate) const FAULTS: &[Row] = &[
         Kind::BadParameter,
         1,
         16,
-        "the parameter takes one value, and this is one more: `301`",
+        "the call takes one value, and this is one more: `301`",
     ),
     (
         b"header(x-a, 1)",
         Kind::BadParameter,
         1,
         13,
-        "write the further parameters by name",
+        "write each value by name: NAME = VALUE",
     ),
     (
         b"response-code(205)",

@@ -11,7 +11,7 @@ pub(crate) const PARAMETERS: &[Row] = &[
         20,
         "1 | path(/a) -> header(name=x-a, value=1)
   |                    ^ the call has no parameter of this name: `name`
-  = write one of the names below
+  = write one of the names below, or quote the value of which this is a part
   = header takes
   =   header: the name of a field
   =   value: a text, with attributes or without
@@ -85,8 +85,8 @@ pub(crate) const PARAMETERS: &[Row] = &[
         1,
         20,
         "1 | response-code(200, 201)
-  |                    ^ the parameter takes one value, and this is one more: `201`
-  = write the further parameters by name: NAME = VALUE
+  |                    ^ the call takes one value, and this is one more: `201`
+  = remove it; if it is a part of the value, quote the whole value
   = response-code takes
   =   value: a status from 200 to 599 other than 205
 ",
@@ -148,7 +148,7 @@ pub(crate) const PARAMETERS: &[Row] = &[
         17,
         "1 | allowed-methods('GET HEAD')
   |                 ^ this is no method, since a method is a token: `GET HEAD`
-  = write letters, digits and ! # $ % & * + - . ^ _ | ~
+  = write each method by itself, in letters, digits and ! # $ % & * + - . ^ _ | ~
   = allowed-methods takes
   =   methods: one method or more
 ",
@@ -159,7 +159,7 @@ pub(crate) const PARAMETERS: &[Row] = &[
         1,
         15,
         "1 | path-template('/a{b') -> done
-  |               ^ this path has a segment that is neither a text nor a name in braces: `/a{b`
+  |               ^ a segment of this path is neither a text nor a name in braces, or a name stands twice: `/a{b`
   = write each segment as text without braces or as {name}, each once, and quote it
   = path-template takes
   =   match: a path, with {name} for a segment that is bound
@@ -177,6 +177,56 @@ pub(crate) const PARAMETERS: &[Row] = &[
   = set takes
   =   attribute: one attribute that may be written
   =   value: a text, with attributes or without
+",
+    ),
+    (
+        b"redirect(/new, 301)",
+        Kind::BadParameter,
+        1,
+        16,
+        "1 | redirect(/new, 301)
+  |                ^ the call takes one value, and this is one more: `301`
+  = remove it; if it is a part of the value, quote the whole value
+  = redirect takes
+  =   value: a text, with attributes or without
+",
+    ),
+    (
+        b"set(%s, 301)",
+        Kind::BadParameter,
+        1,
+        9,
+        "1 | set(%s, 301)
+  |         ^ the parameter takes one value, and this is one more: `301`
+  = write each value by name: NAME = VALUE
+  = set takes
+  =   attribute: one attribute that may be written
+  =   value: a text, with attributes or without
+",
+    ),
+    (
+        b"redirect(/new?a=b)",
+        Kind::BadParameter,
+        1,
+        10,
+        "1 | redirect(/new?a=b)
+  |          ^ the call has no parameter of this name: `/new?a`
+  = write one of the names below, or quote the value of which this is a part
+  = redirect takes
+  =   value: a text, with attributes or without
+",
+    ),
+    (
+        b"path-template('/{a}/{a}') -> done",
+        Kind::BadParameter,
+        1,
+        15,
+        "1 | path-template('/{a}/{a}') -> done
+  |               ^ a segment of this path is neither a text nor a name in braces, or a name stands twice: `/{a}/{a}`
+  = write each segment as text without braces or as {name}, each once, and quote it
+  = path-template takes
+  =   match: a path, with {name} for a segment that is bound
+  =   value: a text, with attributes or without; %R if it is left out
 ",
     ),
 ];

@@ -11,7 +11,7 @@ pub(crate) const SECONDS: &[Row] = &[
         22,
         "1 | path(/a) -> redirect(\"/b)
   |                      ^ this quote is opened here and not closed
-  = write the same quote where the value ends, or close one before it
+  = write the same quote where the value ends, or close one before it; in a value put a backslash before it
 ",
     ),
     (
@@ -31,7 +31,7 @@ pub(crate) const SECONDS: &[Row] = &[
         129,
         "1 | ...not not not not not not not not not not not not not not not not true -> done
   |                                                                ^ this opens level 33
-  = at most 32 blocks, parentheses, not and else are open at once
+  = at most 32 blocks, parentheses, not and else are open at once: split the statement
 ",
     ),
     (
@@ -61,7 +61,7 @@ pub(crate) const SECONDS: &[Row] = &[
         15,
         "2 | regex(pattern='^/[a-', value='%U') -> done
   |               ^ this is no pattern of regex: `unclosed character class, at byte 3 of it`
-  = close each ( [ {, and put a backslash before such a byte that stands for itself
+  = mend it at that byte; a backslash makes a byte stand for itself; no look-around or back-reference is known
 ",
     ),
     (
@@ -81,7 +81,7 @@ pub(crate) const SECONDS: &[Row] = &[
         13,
         "1 | path(/a) -> deny
   |             ^ no handler has this name: `deny`
-  = a handler is wanted here: the case of letters counts
+  = write a handler: set, clear, rewrite, redirect, response-code, header, allowed-methods, request-limit, resource, blocking, access-log or echo
 ",
     ),
     (
@@ -91,7 +91,17 @@ pub(crate) const SECONDS: &[Row] = &[
         9,
         "1 | rewrite('/100%')
   |         ^ this is no attribute: `%`
-  = write %% for a percent sign, or one of the attributes, as %R, %{i,name}, ${name}
+  = write %% for a percent sign, or an attribute: %m %U %R %q %s %r %H %a %h %l %u %t %B %b %{i,name} %{o,name} %{q,name} %{c,name} ${name}
+",
+    ),
+    (
+        b"regex('(?!admin)') -> done",
+        Kind::BadPattern,
+        1,
+        7,
+        "1 | regex('(?!admin)') -> done
+  |       ^ this is no pattern of regex: `look-around, including look-ahead and look-behind, is not supported, at byte 1 of it`
+  = mend it at that byte; a backslash makes a byte stand for itself; no look-around or back-reference is known
 ",
     ),
 ];

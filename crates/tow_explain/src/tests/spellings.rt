@@ -11,7 +11,7 @@ pub(crate) const SPELLINGS: &[Row] = &[
         6,
         "1 | path('/a -> done
   |      ^ this quote is opened here and not closed
-  = write the same quote where the value ends, or close one before it
+  = write the same quote where the value ends, or close one before it; in a value put a backslash before it
 ",
     ),
     (
@@ -21,7 +21,7 @@ pub(crate) const SPELLINGS: &[Row] = &[
         15,
         "1 | path(/old) -> rewriet('/b')
   |               ^ no handler has this name: `rewriet`
-  = a handler is wanted here: the case of letters counts
+  = write a handler: set, clear, rewrite, redirect, response-code, header, allowed-methods, request-limit, resource, blocking, access-log or echo
 ",
     ),
     (
@@ -31,7 +31,7 @@ pub(crate) const SPELLINGS: &[Row] = &[
         7,
         "1 | regex('(') -> done
   |       ^ this is no pattern of regex: `unclosed group, at byte 1 of it`
-  = close each ( [ {, and put a backslash before such a byte that stands for itself
+  = mend it at that byte; a backslash makes a byte stand for itself; no look-around or back-reference is known
 ",
     ),
     (
@@ -41,7 +41,7 @@ pub(crate) const SPELLINGS: &[Row] = &[
         10,
         "1 | redirect('http://example.org%U%Q')
   |          ^ this is no attribute: `%Q`
-  = write %% for a percent sign, or one of the attributes, as %R, %{i,name}, ${name}
+  = write %% for a percent sign, or an attribute: %m %U %R %q %s %r %H %a %h %l %u %t %B %b %{i,name} %{o,name} %{q,name} %{c,name} ${name}
 ",
     ),
     (
@@ -91,7 +91,7 @@ pub(crate) const SPELLINGS: &[Row] = &[
         10,
         "1 | path(/a) \u{e9}
   |          ^ this character may stand in quotes alone: `\u{e9}`
-  = put the whole value in quotes
+  = write plain quotes round the whole value, or a plain character in its place
 ",
     ),
     (
@@ -111,7 +111,7 @@ pub(crate) const SPELLINGS: &[Row] = &[
         15,
         "1 | set(attribute='%{o,content-length}', value=1)
   |               ^ the server writes this field itself: `%{o,content-length}`
-  = write another field
+  = leave it out, or write another field
 ",
     ),
     (
@@ -161,7 +161,7 @@ pub(crate) const SPELLINGS: &[Row] = &[
         33,
         "1 | ((((((((((((((((((((((((((((((((((
   |                                 ^ this opens level 33
-  = at most 32 blocks, parentheses, not and else are open at once
+  = at most 32 blocks, parentheses, not and else are open at once: split the statement
 ",
     ),
     (
@@ -176,6 +176,56 @@ pub(crate) const SPELLINGS: &[Row] = &[
   =   header: the name of a field
   =   value: a text, with attributes or without
   =   override: true or false; true if it is left out
+",
+    ),
+    (
+        b"# don't\ndone",
+        Kind::UnclosedQuote,
+        1,
+        6,
+        "1 | # don't
+  |      ^ a text has no comments, so this quote opens a value
+  = remove what was to be a comment
+",
+    ),
+    (
+        b"done\n  // \xc3\xa9l\xc3\xa8ve",
+        Kind::StrayByte,
+        2,
+        6,
+        "2 |   // \u{e9}l\u{e8}ve
+  |      ^ a text has no comments, and this character may stand in quotes alone: `\u{e9}`
+  = remove what was to be a comment
+",
+    ),
+    (
+        b"//old",
+        Kind::UnknownName,
+        1,
+        1,
+        "1 | //old
+  | ^ a text has no comments, so this is the name of a call: `//old`
+  = remove what was to be a comment
+",
+    ),
+    (
+        b"/a -> done",
+        Kind::UnknownName,
+        1,
+        1,
+        "1 | /a -> done
+  | ^ no predicate has this name: `/a`
+  = write a predicate: true, false, path, path-prefix, path-suffix, path-template, regex, method, equals, contains or exists
+",
+    ),
+    (
+        b"path(\xe2\x80\x9c/a\xe2\x80\x9d) -> done",
+        Kind::StrayByte,
+        1,
+        6,
+        "1 | path(\u{201c}/a\u{201d}) -> done
+  |      ^ this character may stand in quotes alone: `\u{201c}`
+  = write plain quotes round the whole value, or a plain character in its place
 ",
     ),
 ];

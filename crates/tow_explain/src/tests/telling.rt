@@ -10,7 +10,7 @@ use std::alloc::{AllocError, Global};
 use std::process::Abort;
 use std::str;
 use std::test::Fail;
-use tow_language::Kind;
+use tow_language::{HANDLERS, Kind, PREDICATES};
 use tow_model::NoMemory;
 
 /// A text, the kind of its fault with line and column, and what is told.
@@ -106,6 +106,27 @@ fn two_of_each_kind_are_told_in_whole(rt: HostRuntime) -> Result<(), Fail> {
 #[test]
 fn wrong_spellings_are_told(rt: HostRuntime) -> Result<(), Fail> {
     expect_all(&rt, rt.alloc(), SPELLINGS)
+}
+
+/// Whether the name stands in what is told.
+fn expect_name(rt: &impl Abort, told: &String, name: &[u8]) {
+    match str::from_utf8(name) {
+        Ok(name) => assert!(rt; told.as_str().contains(name), "{name}"),
+        Err(_error) => assert!(rt; false),
+    }
+}
+
+#[test]
+fn each_name_of_the_tables_is_told(rt: HostRuntime) -> Result<(), Fail> {
+    let predicates = told_at(rt.alloc(), b"x -> done", Kind::UnknownName, 1, 1)?;
+    for test in PREDICATES {
+        expect_name(&rt, &predicates, test.signature().name);
+    }
+    let handlers = told_at(rt.alloc(), b"x", Kind::UnknownName, 1, 1)?;
+    for handler in HANDLERS {
+        expect_name(&rt, &handlers, handler.signature().name);
+    }
+    Ok(())
 }
 
 fn push(text: &mut String, character: char, count: usize) -> Result<(), AllocError> {

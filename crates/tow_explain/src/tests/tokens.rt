@@ -164,4 +164,104 @@ pub(crate) const TOKENS: &[Row] = &[
   = write , or }
 ",
     ),
+    (
+        b"path(/a)\n-> done",
+        Kind::Unexpected,
+        2,
+        1,
+        "2 | -> done
+  | ^ the line end before this has ended its statement: `->`
+  = write it on the line before; in ( ) a predicate may go on over lines
+",
+    ),
+    (
+        b"path(/a)\n  or path(/b) -> done",
+        Kind::Unexpected,
+        2,
+        3,
+        "2 |   or path(/b) -> done
+  |   ^ the line end before this has ended its statement: `or`
+  = write it on the line before; in ( ) a predicate may go on over lines
+",
+    ),
+    (
+        b"path('/a) -> redirect('/b')\npath('/c) -> done",
+        Kind::Unexpected,
+        1,
+        24,
+        "1 | path('/a) -> redirect('/b')
+  |                        ^ this may not follow a text in quotes: `/b`
+  = write , or close the bracket; if this is to be in quotes, a quote before it is not closed
+",
+    ),
+    (
+        b"header(header=x-a, value='1'\npath(/a) -> done",
+        Kind::Unexpected,
+        2,
+        1,
+        "2 | path(/a) -> done
+  | ^ this stands in what is opened and not closed: `( of 1:7`
+  = close it where the call ends, or write , before this
+",
+    ),
+    (
+        b"header(header=x-a\n       value=1)",
+        Kind::Unexpected,
+        2,
+        8,
+        "2 |        value=1)
+  |        ^ this stands in what is opened and not closed: `( of 1:7`
+  = close it where the call ends, or write , before this
+",
+    ),
+    (
+        b"restart()",
+        Kind::Unexpected,
+        1,
+        8,
+        "1 | restart()
+  |        ^ restart and done take no parameters: `(`
+  = write the word alone
+",
+    ),
+    (
+        b"path(/a) -> done else if path(/b) -> done",
+        Kind::Unexpected,
+        1,
+        26,
+        "1 | path(/a) -> done else if path(/b) -> done
+  |                          ^ a text has no if
+  = write PREDICATE -> TARGET, and else for what is done otherwise
+",
+    ),
+    (
+        b"if (path(/a)) { done }",
+        Kind::Unexpected,
+        1,
+        9,
+        "1 | if (path(/a)) { done }
+  |         ^ a text has no if
+  = write PREDICATE -> TARGET, and else for what is done otherwise
+",
+    ),
+    (
+        b"// old rules\ndone",
+        Kind::Unexpected,
+        1,
+        4,
+        "1 | // old rules
+  |    ^ a text has no comments: `old`
+  = remove what was to be a comment
+",
+    ),
+    (
+        b"done /* old */",
+        Kind::Unexpected,
+        1,
+        6,
+        "1 | done /* old */
+  |      ^ a text has no comments: `/*`
+  = remove what was to be a comment
+",
+    ),
 ];

@@ -2,7 +2,8 @@
 
 use super::remarks::{Noted, REMARKS};
 use super::right::RIGHT;
-use crate::notes_on;
+use super::unbuilt::UNBUILT;
+use crate::{notes_on, unbuilt_on};
 use std::alloc::Global;
 use std::process::Abort;
 use std::str;
@@ -10,8 +11,11 @@ use std::test::Fail;
 use tow_model::NoMemory;
 
 fn noted(alloc: Global, text: &[u8]) -> Result<String, NoMemory> {
-    let notes = notes_on(alloc, text)?;
-    match str::from_utf8(notes.as_slice()) {
+    words(alloc, notes_on(alloc, text)?.as_slice())
+}
+
+fn words(alloc: Global, notes: &[u8]) -> Result<String, NoMemory> {
+    match str::from_utf8(notes) {
         Ok(notes) => Ok(String::from_str(alloc, notes)?),
         Err(_error) => Ok(String::from_str(alloc, "no UTF-8")?),
     }
@@ -73,6 +77,19 @@ fn the_largest_texts_are_answered(rt: HostRuntime) -> Result<(), Fail> {
 #[test]
 fn notes_are_on_what_is_not_meant(rt: HostRuntime) -> Result<(), Fail> {
     expect_all(&rt, rt.alloc(), REMARKS)
+}
+
+fn expect_unbuilt(rt: &impl Abort, alloc: Global, rows: &[Noted]) -> Result<(), Fail> {
+    for (text, wanted) in rows {
+        let notes = words(alloc, unbuilt_on(alloc, text)?.as_slice())?;
+        assert_eq!(rt; notes.as_str(), *wanted);
+    }
+    Ok(())
+}
+
+#[test]
+fn calls_that_are_not_built_are_named(rt: HostRuntime) -> Result<(), Fail> {
+    expect_unbuilt(&rt, rt.alloc(), UNBUILT)
 }
 
 #[test]
