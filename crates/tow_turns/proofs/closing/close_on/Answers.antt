@@ -44,7 +44,7 @@ listeners-preserved g c =
       ran = ran_on a b after c.args.completing c.listeners.completing c.in-Closing.next i.ran run c.close_by-stage.ensures.base;
       faults = faults_both k one two three i.faults later;
       steps = λ s. then_tells k s one two three a b after (stage_of (stage.Closing c.args.completing))
-          (stage_of (stage.Closing c.listeners.completing)) (stage_of (stage.Closing c.in-Closing.next)) at_b at i.faults later (i.steps s) 
+          (stage_of (stage.Closing c.listeners.completing)) (stage_of (stage.Closing c.in-Closing.next)) at_b at i.faults later (i.steps s)
           (subst (λ (x : Stage). LeadsTelling two three s b after (stage_of (stage.Closing c.listeners.completing)) (stage_of x)) c.in-Closing.is
           (c.close_by-stage.ensures.steps s));
     }
