@@ -1,20 +1,18 @@
 -- What holds of the hands of a thread, and of a connection, holds over two steps.
-use Rattle.std.proofs.Common.{◌≡◌, ◌⊎◌, inl, inr, ◌≤◌, ℕ, Bool, Option, Some, None, refl, sym, ap, subst, ◌∙◌, arith}
+use Rattle.std.proofs.Common.{◌≡◌, ◌⊎◌, inl, inr, ◌≤◌, ℕ, Option, Some, None, refl, ap, ◌∙◌, arith}
 use Rattle.tow_model.specs.declared.account.Role.{Role}
 use Rattle.tow_model.specs.declared.account.Role.TheVariants.{Loop, Main, Worker}
 use Rattle.tow_model.specs.declared.account.End.{End}
 use Rattle.tow_model.specs.declared.account.End.TheVariants.{Done, FolderFault, LinkFault, NoMemory}
-use Rattle.tow_link.specs.Data.{Rose}
 use Rattle.tow_folder.specs.Folders.{FolderData}
 use Rattle.tow_peer.specs.Links.{LinkData, NeverFall}
 use Rattle.tow_host.specs.Logs.{LogData}
-use Rattle.tow_walks.specs.Folders.{FolderStays, faults_by, may_look}
+use Rattle.tow_walks.specs.Folders.{FolderStays, faults_by}
 use Rattle.tow_walks.proofs.Folders.{folder_further, folder_stays}
 use Rattle.tow_states.specs.Known.{Setting}
 use Rattle.tow_stages.specs.Stages.{Stage}
 use Rattle.tow_turns.specs.Logging.{KeepsFaults}
 use Rattle.tow_turns.specs.Nexts.{IsOwnEnd, end_in}
-use Rattle.tow_turns.specs.Roles.{IsLoop}
 use Rattle.tow_turns.proofs.Sends.{tells_still}
 use Rattle.tow_turns.proofs.Tellings.{faults_both, faults_kept}
 use Rattle.tow_by_turns.specs.Hands.{ClockStays, IsClockIn, IsEquipped, KeepsHands, Serves, log_of}

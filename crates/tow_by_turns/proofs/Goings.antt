@@ -1,5 +1,5 @@
 -- Steps up to what is needed.
-use Rattle.std.proofs.Common.{◌≡◌, ◌⊎◌, inl, inr, ◌<◌, ◌≤◌, ℕ, Bool, true, false, List, [], length, Option, Some, None, refl, sym, ap, subst, ◌∙◌, arith}
+use Rattle.std.proofs.Common.{◌≡◌, ◌⊎◌, inl, inr, ◌≤◌, ℕ, Bool, false, List, Option, Some, None, refl, ap, subst, ◌∙◌}
 use Rattle.circular_buffer.specs.Buffer.{Buffer}
 use Rattle.tow_model.specs.declared.account.Role.{Role}
 use Rattle.tow_model.specs.declared.account.Role.TheVariants.{Loop, Main, Worker}
@@ -8,7 +8,7 @@ use Rattle.tow_model.specs.declared.statement.Statement.{Statement}
 use Rattle.tow_semantics.specs.Files.{Files}
 use Rattle.tow_stages.specs.Stages.{Base, Stage}
 use Rattle.tow_turns.specs.Cuts.{IsLive}
-use Rattle.tow_turns.specs.Nexts.{IsNext, IsOver, IsOwnEnd, KeepsLink, StepFits, end_in, weight}
+use Rattle.tow_turns.specs.Nexts.{IsNext, IsOver, IsOwnEnd, KeepsLink, StepFits, end_in}
 use Rattle.tow_turns.specs.Roles.{IsLoop}
 use Rattle.tow_turns.specs.Safe.{IsSafe}
 use Rattle.tow_turns.specs.declared.stage.Then.{Then}
@@ -17,7 +17,7 @@ use Rattle.tow_turns.specs.declared.turn.Turn.{Turn}
 use Rattle.tow_turns.specs.declared.turn.Turn.TheVariants.{AskLimit, Ended, Idle, Release, Spent, ToLoop, ToPool}
 use Rattle.tow_by_turns.specs.Needs.{Goes, IsFirst, IsNeed, IsWrittenFor, need_after}
 use Rattle.tow_by_turns.specs.declared.need.Need.{Need}
-use Rattle.tow_by_turns.specs.declared.need.Need.TheVariants.{Read, Stop, Write}
+use Rattle.tow_by_turns.specs.declared.need.Need.TheVariants.{Stop}
 use Rattle.tow_by_turns.proofs.Further.{ends_further}
 
 -- So far steps have led.

@@ -1,12 +1,10 @@
 -- The link is read or written, or the turn stops.
-use Rattle.std.proofs.Common.{◌≡◌, ◌≢◌, ◌⊎◌, inl, inr, ◌<◌, ◌≤◌, ◌+◌, ◌-◌, ◌*◌, ℕ, Bool, true, false, List, [], length, if◌then◌else◌, Option, Some, None, refl, sym, ap, subst, ◌∙◌, arith}
+use Rattle.std.proofs.Common.{◌≡◌, inl, inr, ◌<◌, ◌+◌, ◌-◌, ◌*◌, ℕ, Bool, true, false, List, if◌then◌else◌, Option, Some, None, refl, sym, subst, ◌∙◌, arith}
 use Rattle.circular_buffer.specs.Buffer.{Buffer}
 use Rattle.tow_model.specs.declared.account.Role.{Role}
 use Rattle.tow_model.specs.declared.account.End.{End}
-use Rattle.tow_model.specs.declared.account.End.TheVariants.{LinkFault, NoMemory}
 use Rattle.tow_model.specs.declared.statement.Statement.{Statement}
 use Rattle.tow_semantics.specs.Files.{Files}
-use Rattle.tow_link.specs.Data.{Rose}
 use Rattle.tow_peer.specs.Links.{LinkData, NeverFall}
 use Rattle.tow_progress.specs.Progress.{Progress}
 use Rattle.tow_progress.specs.Steps.{read_in, written_out}
@@ -22,7 +20,6 @@ use Rattle.tow_stages.proofs.Moves.{reads_lead_on, writes_lead_on}
 use Rattle.tow_turns.specs.Cuts.{IsLive}
 use Rattle.tow_turns.specs.Data.{port_of}
 use Rattle.tow_turns.specs.Nexts.{IsForWorker, end_in}
-use Rattle.tow_turns.specs.Roles.{IsLoop}
 use Rattle.tow_turns.specs.Safe.{IsSafe}
 use Rattle.tow_turns.specs.Steps.{Leads}
 use Rattle.tow_turns.specs.declared.turn.Turn.{Turn}
@@ -31,8 +28,8 @@ use Rattle.tow_turns.proofs.Cuts.{comes_to}
 use Rattle.tow_by_turns.specs.Needs.{IsNeed}
 use Rattle.tow_by_turns.specs.Turns.{IsAnswer, IsTurnEnd, RoundFits, live_rank, turn_left}
 use Rattle.tow_by_turns.specs.declared.linking.TheConstants.{TURN_LEN}
-use Rattle.tow_by_turns.specs.declared.need.Need.TheVariants.{Read, Stop, Write}
-use Rattle.tow_by_turns.proofs.Stages.{end_is_none, live_is_one, reads_live, safe_over, safe_written}
+use Rattle.tow_by_turns.specs.declared.need.Need.TheVariants.{Stop}
+use Rattle.tow_by_turns.proofs.Stages.{end_is_none, live_is_one}
 
 -- ---- what it leads to
 

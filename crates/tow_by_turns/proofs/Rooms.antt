@@ -1,16 +1,15 @@
 -- A connection that has noted a call, or has more places for calls, is where it was.
-use Rattle.std.proofs.Common.{◌≡◌, ◌≤◌, ◌+◌, ◌*◌, ℕ, Bool, true, false, List, length, reverse, Option, Some, None, refl, sym, ap, subst, ◌∙◌, arith}
+use Rattle.std.proofs.Common.{◌≡◌, ◌≤◌, ℕ, Bool, List, sym, subst, arith}
 use Rattle.tow_model.specs.declared.account.Call.{Call}
 use Rattle.tow_model.specs.declared.account.End.{End}
 use Rattle.tow_model.specs.declared.account.End.TheVariants.{Done, FolderFault, LinkFault, NoMemory}
-use Rattle.tow_model.specs.declared.record.Listener.{Listener}
 use Rattle.tow_model.specs.declared.statement.Statement.{Statement}
 use Rattle.tow_exchange.specs.Exchanges.{ExchangeData}
 use Rattle.tow_progress.specs.Progress.{Progress, Origin}
 use Rattle.tow_progress.specs.Accounts.{Tally}
 use Rattle.tow_leads.specs.Ports.{PortData}
 use Rattle.tow_states.specs.Known.{Setting}
-use Rattle.tow_states.specs.Calling.{HasPlaces, HasPlacesFor, leavings}
+use Rattle.tow_states.specs.Calling.{HasPlaces}
 use Rattle.tow_stages.specs.Stages.{Base, Stage, answering, closing, ended, gathering, reading, refusing, walking}
 use Rattle.tow_stages.specs.Holding.{HasEnded, Holds, HoldsAt, IsServed}
 

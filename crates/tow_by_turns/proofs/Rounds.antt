@@ -1,17 +1,15 @@
 -- Rounds of a turn, one after another.
-use Rattle.std.proofs.Common.{◌≡◌, ◌⊎◌, inl, inr, ◌<◌, ◌≤◌, ◌+◌, ◌-◌, ◌*◌, ℕ, zero, suc, Bool, List, length, if◌then◌else◌, Option, Some, None, refl, sym, ap, subst, ◌∙◌, arith}
+use Rattle.std.proofs.Common.{◌≡◌, ◌⊎◌, inl, inr, ◌<◌, ◌≤◌, ◌+◌, ◌-◌, ◌*◌, ℕ, zero, suc, Bool, List, if◌then◌else◌, Option, Some, refl, sym, subst, ◌∙◌, arith}
 use Rattle.std.specs.Prelude.{IfSome}
 use Rattle.std.specs.Global.{Vec}
-use Rattle.std.specs.Vec.{vec_capacity}
 use Rattle.tow_model.specs.declared.account.Role.{Role}
 use Rattle.tow_model.specs.declared.account.End.{End}
 use Rattle.tow_model.specs.declared.account.End.TheVariants.{Done, FolderFault, LinkFault, NoMemory}
 use Rattle.tow_model.specs.declared.statement.Statement.{Statement}
 use Rattle.tow_semantics.specs.Files.{Files}
-use Rattle.tow_link.specs.Data.{Rose}
 use Rattle.tow_peer.specs.Links.{LinkData, NeverFall}
 use Rattle.tow_stages.specs.Stages.{Base, Stage}
-use Rattle.tow_turns.specs.Nexts.{IsOwnEnd, KeepsLink, end_in}
+use Rattle.tow_turns.specs.Nexts.{KeepsLink, end_in}
 use Rattle.tow_turns.specs.Safe.{IsSafe}
 use Rattle.tow_turns.specs.declared.turn.Turn.{Turn}
 use Rattle.tow_turns.specs.declared.turn.Turn.TheVariants.{AskLimit, Ended, Idle, Release, Spent, ToLoop, ToPool}

@@ -1,17 +1,16 @@
 -- What holds of a stage goes on to hold over another port.
-use Rattle.std.proofs.Common.{◌≡◌, ◌<◌, ◌≤◌, ℕ, true, false, List, [], ◌∷◌, length, Option, Some, None, refl, sym, ap, subst, ◌∙◌, arith}
+use Rattle.std.proofs.Common.{◌≡◌, ◌<◌, ◌≤◌, ℕ, true, false, List, [], ◌∷◌, length, Option, Some, None, refl, ap, ◌∙◌, arith}
 use Rattle.circular_buffer.specs.Buffer.{Buffer}
 use Rattle.tow_model.specs.declared.account.End.{End}
 use Rattle.tow_model.specs.declared.statement.Statement.{Statement}
 use Rattle.tow_semantics.specs.Files.{Files}
 use Rattle.tow_exchange.specs.Exchanges.{ExchangeData}
 use Rattle.tow_leads.specs.Ports.{PortData}
-use Rattle.tow_sending.specs.Pieces.{Own, Part}
 use Rattle.tow_stages.specs.Stages.{Base, Stage, answering, closing, ended, gathering, reading, refusing, walking}
 use Rattle.tow_stages.specs.Moving.{IsTaking, IsWriting, over}
 use Rattle.tow_turns.specs.Cuts.{IsLive, MayBeCut}
 use Rattle.tow_turns.specs.Nexts.{CanRead, IsForWorker, IsOver, ReadsLink, end_in}
-use Rattle.tow_turns.specs.Safe.{IsAsking, IsOpen, IsSafe}
+use Rattle.tow_turns.specs.Safe.{IsOpen, IsSafe}
 use Rattle.tow_by_turns.specs.Turns.{live_rank}
 
 -- ---- what kind of stage it is

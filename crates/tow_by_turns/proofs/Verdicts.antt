@@ -1,5 +1,5 @@
 -- A verdict comes, or the leaving of a limit is noted.
-use Rattle.std.proofs.Common.{◌≡◌, ◌<◌, ◌≤◌, ◌+◌, ◌*◌, ℕ, suc, pred, Bool, List, [], ◌∷◌, ◌++◌, length, length-append, Option, Some, None, refl, sym, ap, subst, ◌∙◌, arith}
+use Rattle.std.proofs.Common.{◌≡◌, ◌<◌, ◌≤◌, ℕ, pred, List, [], ◌∷◌, ◌++◌, length, Option, Some, None, refl, sym, ap, subst, ◌∙◌, arith}
 use Rattle.tow_model.specs.declared.account.Call.{Call}
 use Rattle.tow_model.specs.declared.account.End.{End}
 use Rattle.tow_model.specs.Dates.{first_undated}
@@ -7,33 +7,28 @@ use Rattle.tow_model.specs.declared.account.Verdict.{Verdict}
 use Rattle.tow_model.specs.declared.account.Verdict.TheVariants.{Admitted, Refused}
 use Rattle.tow_model.specs.declared.account.What.{What}
 use Rattle.tow_model.specs.declared.account.What.TheVariants.{Enter, Leave}
-use Rattle.tow_model.specs.declared.record.Listener.TheVariants as listener
 use Rattle.tow_model.specs.declared.statement.Statement.{Statement}
 use Rattle.tow_semantics.specs.Files.{Files}
 use Rattle.tow_exchange.specs.Exchanges.{ExchangeData, verdict_given}
 use Rattle.tow_exchange.specs.declared.phase.Phase.TheVariants.{AwaitsVerdict}
 use Rattle.tow_closing.specs.Closings.{ClosingData}
-use Rattle.tow_leads.specs.Ports.{PortData}
 use Rattle.tow_peer.specs.Links.{LinkData}
 use Rattle.tow_port.specs.declared.port.Port.{Port}
-use Rattle.tow_progress.specs.Progress.{Progress, Origin}
 use Rattle.tow_progress.specs.Steps.{heard}
-use Rattle.tow_progress.specs.Accounts.{Tally, called, entered, released}
+use Rattle.tow_progress.specs.Accounts.{called, entered, released}
 use Rattle.tow_states.specs.Known.{Setting}
-use Rattle.tow_states.specs.Calling.{HasPlaces, HasPlacesFor, leavings}
-use Rattle.tow_states.specs.Leaving.{left_in}
+use Rattle.tow_states.specs.Calling.{HasPlaces, HasPlacesFor}
 use Rattle.tow_states.proofs.Calls.{calls_have_places}
 use Rattle.tow_walks.proofs.Sendable.{verdicts_stay_sendable}
 use Rattle.tow_stages.specs.Stages.{closing, walking}
 use Rattle.tow_stages.specs.Stages as model
-use Rattle.tow_stages.specs.Holding.{Holds}
 use Rattle.tow_stages.specs.Walking.{with_verdict}
 use Rattle.tow_stages.specs.Closing.{with_leaving}
 use Rattle.tow_stages.proofs.Walks.{walkings_lead_on}
 use Rattle.tow_stages.proofs.Closes.{closings_lead_on}
 use Rattle.tow_turns.specs.Data.{base_of, port_of}
-use Rattle.tow_turns.specs.Safe.{IsOpen, IsSafe, IsWritten, calls_of}
-use Rattle.tow_turns.specs.Steps.{Comes, Leads}
+use Rattle.tow_turns.specs.Safe.{IsSafe, IsWritten, calls_of}
+use Rattle.tow_turns.specs.Steps.{Leads}
 use Rattle.tow_turns.specs.declared.base.Base.{Base}
 use Rattle.tow_by_turns.specs.Limits.{Notes}
 use Rattle.tow_by_turns.proofs.Rooms.{rebased}

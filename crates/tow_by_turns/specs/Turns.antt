@@ -1,5 +1,5 @@
 -- A turn of a connection: what it answers, and what it keeps.
-use Rattle.std.specs.Prelude.{◌≡◌, ◌⊎◌, ◌<◌, ◌≤◌, ◌+◌, ◌-◌, ◌*◌, ℕ, Bool, true, false, List, [], length, if◌then◌else◌, Option, Some, None}
+use Rattle.std.specs.Prelude.{◌≡◌, ◌⊎◌, ◌<◌, ◌≤◌, ◌+◌, ◌-◌, ◌*◌, ℕ, List, [], length, if◌then◌else◌, Option, Some, None}
 use Rattle.std.specs.Global.{Vec}
 use Rattle.std.specs.Vec.{vec_capacity}
 use Rattle.tow_model.specs.declared.account.Role.{Role}
@@ -9,7 +9,7 @@ use Rattle.tow_model.specs.declared.statement.Statement.{Statement}
 use Rattle.tow_semantics.specs.Files.{Files}
 use Rattle.tow_link.specs.Data.{Rose}
 use Rattle.tow_peer.specs.Links.{LinkData, NeverFall}
-use Rattle.tow_stages.specs.Stages.{Base, Stage, answering, closing, ended, gathering, reading, refusing, walking}
+use Rattle.tow_stages.specs.Stages.{Base, Stage, closing, ended}
 use Rattle.tow_turns.specs.Cuts.{IsLive}
 use Rattle.tow_turns.specs.Nexts.{IsNext, ReadsLink, end_in}
 use Rattle.tow_turns.specs.Roles.{IsLoop}

@@ -1,5 +1,5 @@
 -- What a step has to show that begins at a stage where an exchange, or a refusal, is under way.
-use Rattle.std.proofs.Common.{◌≡◌, ◌≢◌, ◌⊎◌, inl, inr, ◌↔◌, ◌<◌, ℕ, Bool, true, false, IsTrue, List, Option, Some, None, subst}
+use Rattle.std.proofs.Common.{◌≡◌, ◌≢◌, inr, ◌↔◌, ◌<◌, ℕ, Bool, true, false, IsTrue, List, Option, Some, None, subst}
 use Rattle.tow_model.specs.declared.account.Role.{Role}
 use Rattle.tow_model.specs.declared.account.End.{End}
 use Rattle.tow_model.specs.declared.statement.Statement.{Statement}

@@ -1,5 +1,5 @@
 -- An answer is put as far as there is room, and then something follows.
-use Rattle.std.proofs.Common.{◌≡◌, ◌≢◌, ◌⊎◌, inl, inr, ◌<◌, ◌≤◌, ◌+◌, ◌-◌, ◌*◌, ℕ, Bool, true, false, List, [], ◌∷◌, length, Option, Some, None, All, refl, sym, ap, subst, ◌∙◌, arith}
+use Rattle.std.proofs.Common.{◌≡◌, ◌≢◌, ◌⊎◌, inl, inr, ◌<◌, ◌≤◌, ◌+◌, ◌*◌, ℕ, Bool, List, [], ◌∷◌, length, Option, Some, None, refl, sym, ap, subst, ◌∙◌, arith}
 use Rattle.std.proofs.lemmas.List.{nil_from_length}
 use Rattle.std.proofs.lemmas.List.Elements.{All-head}
 use Rattle.circular_buffer.specs.Buffer.{Buffer, buffer}
@@ -14,15 +14,15 @@ use Rattle.tow_source.specs.declared.drain.Drain.{Drain}
 use Rattle.tow_content.specs.declared.source.ContentSource.{ContentSource}
 use Rattle.tow_link.specs.Data.{Rose}
 use Rattle.tow_replies.specs.Replies.{FitPipe}
-use Rattle.tow_sending.specs.Pieces.{Own, Part, Piece, room_of, size_of}
+use Rattle.tow_sending.specs.Pieces.{Own, Part, Piece, size_of}
 use Rattle.tow_sending.specs.declared.sent.Sent.{Sent}
 use Rattle.tow_sending.specs.declared.sent.Sent.TheVariants as sent
 use Rattle.tow_stages.specs.Stages.{Base, Stage, answering, closing}
 use Rattle.tow_turns.specs.Cuts.{IsLive}
-use Rattle.tow_turns.specs.Nexts.{IsForLoop, IsForWorker, IsNext, IsOwnEnd, KeepsLink, StepFits, end_in, rank, weight}
+use Rattle.tow_turns.specs.Nexts.{IsForLoop, IsForWorker, IsNext, IsOwnEnd, KeepsLink, StepFits, end_in, weight}
 use Rattle.tow_turns.specs.Puttings.{HasPut, IsFileNext, IsFull, with_output}
 use Rattle.tow_turns.specs.Roles.{IsLoop}
-use Rattle.tow_turns.specs.Safe.{IsPuttable, IsSafe}
+use Rattle.tow_turns.specs.Safe.{IsPuttable}
 use Rattle.tow_turns.specs.declared.stage.Then.{Then}
 use Rattle.tow_turns.specs.declared.stage.Then.TheVariants.{On, Read, Stop, Write}
 use Rattle.tow_turns.specs.declared.turn.Turn.TheVariants.{ToPool}

@@ -1,5 +1,5 @@
 -- What follows a step, and what each step does whatever the link tells.
-use Rattle.std.specs.Prelude.{◌≡◌, ◌≢◌, ◌⊎◌, ◌<◌, ℕ, ◌+◌, ◌*◌, Bool, true, false, List, [], ◌∷◌, length, Option, Some, None}
+use Rattle.std.specs.Prelude.{◌≡◌, ◌≢◌, ◌⊎◌, ◌<◌, ℕ, ◌+◌, ◌*◌, true, false, List, [], ◌∷◌, length, Option, Some, None}
 use Rattle.tow_model.specs.declared.account.Role.{Role}
 use Rattle.tow_model.specs.declared.account.End.{End}
 use Rattle.tow_model.specs.declared.account.End.TheVariants as ends
@@ -9,7 +9,7 @@ use Rattle.tow_wire.specs.Answers.{continue_text}
 use Rattle.tow_exchange.specs.declared.phase.Phase.TheVariants.{AwaitsVerdict, Stopped}
 use Rattle.tow_link.specs.Data.{Rose}
 use Rattle.tow_port.specs.Ports.{room_of}
-use Rattle.tow_sending.specs.Pieces.{Own, Part, size_of}
+use Rattle.tow_sending.specs.Pieces.{Part, size_of}
 use Rattle.tow_stages.specs.Stages.{Base, Stage, answering, closing, ended, gathering, reading, refusing, walking}
 use Rattle.tow_turns.specs.Cuts.{IsLive}
 use Rattle.tow_turns.specs.Roles.{IsLoop}

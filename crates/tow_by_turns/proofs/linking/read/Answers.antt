@@ -1,7 +1,6 @@
 use Rattle.std.proofs.Common.{◌<◌, ℕ, inr, refl, sym, ap, subst, ◌∙◌, arith}
 use Rattle.circular_buffer.specs.Buffer.{Buffer}
 use Rattle.tow_model.specs.declared.account.End.TheVariants.{LinkFault}
-use Rattle.tow_stages.specs.Stages.{Base}
 use Rattle.tow_stages.specs.Moving.{over}
 use Rattle.tow_port.specs.Ports.{room_of}
 use Rattle.tow_turns.specs.Data.{base_of, port_of, stage_of}

@@ -1,12 +1,11 @@
 use Rattle.std.proofs.Common.{◌<◌, ℕ, inl, refl, sym, subst, length, arith}
 use Rattle.circular_buffer.specs.Buffer.{Buffer}
 use Rattle.tow_model.specs.declared.account.End.TheVariants.{LinkFault}
-use Rattle.tow_stages.specs.Stages.{Base}
 use Rattle.tow_stages.specs.Moving.{over}
 use Rattle.tow_turns.specs.Data.{base_of, port_of, stage_of}
 use Rattle.tow_turns.proofs.Tellings.{then_on}
 use Rattle.tow_by_turns.proofs.Links.{cut_fits, moves_fits, port_written, stalls_fits, write_leads}
-use Rattle.tow_by_turns.proofs.Stages.{live_writing, safe_over, safe_written}
+use Rattle.tow_by_turns.proofs.Stages.{live_writing, safe_written}
 use Rattle.tow_by_turns.proofs.linking.write.Goals as goal
 
 pub cut-requires : goal.cut-requires

@@ -1,4 +1,4 @@
-use Rattle.std.proofs.Common.{Option, Some, option_map, sym, subst}
+use Rattle.std.proofs.Common.{Some, option_map, sym, subst}
 use Rattle.tow_walks.specs.Folders.{faults_by, told_by}
 use Rattle.tow_turns.specs.Data.{base_of, stage_of}
 use Rattle.tow_turns.specs.Logging.{LeadsTelling}

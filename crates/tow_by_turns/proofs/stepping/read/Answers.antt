@@ -1,4 +1,4 @@
-use Rattle.std.proofs.Common.{◌≡◌, ℕ, List, length, Option, Some, sym, ap, subst, ◌∙◌}
+use Rattle.std.proofs.Common.{List, length, ap, subst, ◌∙◌}
 use Rattle.tow_model.specs.declared.account.Bound.{Bound}
 use Rattle.tow_model.specs.declared.statement.Statement.{Statement}
 use Rattle.tow_semantics.specs.Listeners.{bounds_of}

@@ -1,4 +1,4 @@
-use Rattle.std.proofs.Common.{◌≡◌, List, sym, ap, subst, ◌∙◌}
+use Rattle.std.proofs.Common.{List, sym, ap, subst, ◌∙◌}
 use Rattle.tow_model.specs.declared.statement.Statement.{Statement}
 use Rattle.tow_program.specs.Programs.{program_of}
 use Rattle.tow_walks.specs.Folders.{faults_by, told_by}

@@ -1,4 +1,4 @@
-use Rattle.std.proofs.Common.{◌≡◌, ℕ, List, Option, Some, refl, sym, ap, subst, ◌∙◌}
+use Rattle.std.proofs.Common.{List, ap, subst, ◌∙◌}
 use Rattle.tow_model.specs.declared.statement.Statement.{Statement}
 use Rattle.tow_program.specs.Programs.{program_of}
 use Rattle.tow_site.specs.Compiled.{SiteData}

@@ -1,4 +1,4 @@
-use Rattle.std.proofs.Common.{◌≡◌, ℕ, List, Option, None, Some, refl, sym, ap, subst, ◌∙◌}
+use Rattle.std.proofs.Common.{◌≡◌, ℕ, List, Option, None, Some, sym, ap, subst, ◌∙◌}
 use Rattle.tow_model.specs.declared.statement.Statement.{Statement}
 use Rattle.tow_semantics.specs.Files.{Files}
 use Rattle.tow_site.specs.Compiled.{pattern_texts}

@@ -1,11 +1,9 @@
-use Rattle.std.proofs.Common.{◌≡◌, ◌≢◌, ℕ, List, [], ◌*◌, ◌+◌, length, Some, None, refl, sym, ap, subst, ◌∙◌}
-use Rattle.circular_buffer.specs.Buffer.{Buffer}
+use Rattle.std.proofs.Common.{◌*◌, ◌+◌, length, sym, ap, subst, ◌∙◌}
 use Rattle.tow_model.specs.declared.account.End.TheVariants.{FolderFault}
 use Rattle.tow_sending.specs.declared.sent.Sent.{Sent}
 use Rattle.tow_walks.specs.Folders.{faults_by, told_by}
 use Rattle.tow_stages.specs.Stages as model
 use Rattle.tow_turns.specs.Data.{base_of, stage_of}
-use Rattle.tow_turns.specs.Nexts.{weight}
 use Rattle.tow_turns.specs.Puttings.{HasPut}
 use Rattle.tow_turns.specs.declared.stage.Stage.TheVariants as stage
 use Rattle.tow_turns.proofs.Cuts.{cut_answering}

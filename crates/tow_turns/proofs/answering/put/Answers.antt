@@ -1,4 +1,4 @@
-use Rattle.std.proofs.Common.{◌≡◌, ◌∙◌, true, false, Option, None, Some, refl, sym, subst}
+use Rattle.std.proofs.Common.{◌∙◌, Option, None, Some, refl, sym, subst}
 use Rattle.tow_semantics.specs.Files.{Files}
 use Rattle.tow_link.specs.Data.{Rose}
 use Rattle.tow_sending.specs.Pieces.{Puts, room_of}

@@ -1,4 +1,4 @@
-use Rattle.std.proofs.Common.{◌≡◌, ◌≤◌, List, length}
+use Rattle.std.proofs.Common.{◌≡◌, ◌≤◌, length}
 use Rattle.tow_states.specs.Known.{Setting}
 use Rattle.tow_walks.specs.Folders.{FolderStays, told_by}
 use Rattle.tow_turns.specs.Data.{base_of, stage_of}

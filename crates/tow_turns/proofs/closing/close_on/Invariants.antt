@@ -1,4 +1,4 @@
-use Rattle.std.proofs.Common.{List, length, Some}
+use Rattle.std.proofs.Common.{length, Some}
 use Rattle.tow_states.specs.Known.{Setting}
 use Rattle.tow_states.specs.Leaving.{left_in}
 use Rattle.tow_turns.specs.Data.{base_of, stage_of}

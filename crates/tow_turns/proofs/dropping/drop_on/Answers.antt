@@ -1,4 +1,4 @@
-use Rattle.std.proofs.Common.{List, [], Some, None, refl, sym, subst, ◌∙◌}
+use Rattle.std.proofs.Common.{List, Some, None, refl, sym, subst, ◌∙◌}
 use Rattle.tow_model.specs.declared.account.End.TheVariants.{Done}
 use Rattle.tow_sending.specs.Pieces.{Piece}
 use Rattle.tow_stages.specs.Stages as model

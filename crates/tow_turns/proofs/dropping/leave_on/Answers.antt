@@ -1,4 +1,4 @@
-use Rattle.std.proofs.Common.{◌≡◌, true, false, List, [], Option, Some, None, if◌then◌else◌, sym, subst, ap, ◌∙◌, arith}
+use Rattle.std.proofs.Common.{◌≡◌, List, [], Option, Some, None, if◌then◌else◌, sym, subst, arith}
 use Rattle.std.proofs.lemmas.List.{nil_from_length}
 use Rattle.tow_model.specs.declared.account.End.TheVariants.{Done}
 use Rattle.tow_source.specs.declared.drain.Drain.{Drain}
@@ -11,7 +11,6 @@ use Rattle.tow_turns.specs.Nexts.{StepFits}
 use Rattle.tow_turns.specs.Safe.{IsSafe}
 use Rattle.tow_turns.specs.Steps.{Leads}
 use Rattle.tow_turns.specs.declared.stage.Stage.TheVariants as stage
-use Rattle.tow_turns.specs.declared.stage.Then.TheVariants.{On}
 use Rattle.tow_turns.proofs.Cuts.{rests}
 use Rattle.tow_turns.proofs.Drops.{closing_may_come, completes_fit, completes_on, leaves_to_loop, leaves_to_write}
 use Rattle.tow_turns.proofs.Fits.{is_no_loop}
